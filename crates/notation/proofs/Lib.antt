@@ -1,0 +1,5 @@
+pub mod Numerals
+pub mod Parsing
+pub mod Writing
+pub mod RoundTrip
+pub mod Examples

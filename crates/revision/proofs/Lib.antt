@@ -1,0 +1,4 @@
+pub mod Writes
+pub mod Heads
+pub mod Ids
+pub mod LiveFront
