@@ -1,3 +1,4 @@
 pub mod Widths
 pub mod Packing
 pub mod Searching
+pub mod Eights

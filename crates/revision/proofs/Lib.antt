@@ -2,3 +2,8 @@ pub mod Writes
 pub mod Heads
 pub mod Ids
 pub mod LiveFront
+pub mod Histories
+pub mod Lines
+pub mod Places
+pub mod Tags
+pub mod Trees

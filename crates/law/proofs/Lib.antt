@@ -1,0 +1,16 @@
+pub mod Sites
+pub mod Sound
+pub mod Invariant
+pub mod Writes
+pub mod Notes
+pub mod Wrote
+pub mod Changes
+pub mod Turns
+pub mod Steps
+pub mod Shown
+pub mod Finished
+pub mod History
+pub mod Happens
+pub mod Trails
+pub mod Embeds
+pub mod Lines

@@ -1,0 +1,4 @@
+pub mod Replications
+pub mod Runs
+pub mod Laws
+pub mod Happens

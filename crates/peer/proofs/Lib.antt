@@ -1,0 +1,4 @@
+pub mod Waiting
+pub mod Calls
+pub mod Callers
+pub mod PathRule
