@@ -1,11 +1,22 @@
 // Plain examples, run.
 #[cfg(test)]
 mod tests {
+    use block::BlockArray;
+    use block::BlockArrayDevice;
+    use block::Device;
+    use block::Outcome;
+    use block::Partition;
+    use block::PartitionDevice;
+    use block::Plan;
+    use block::write_two;
     use checkpoint::Entry;
     use checkpoint::EntryDebug;
     use checkpoint::EntryPartialEq;
     use checkpoint::Log;
     use checkpoint::compare;
+    use decline::BlockFault;
+    use decline::BlockFaultDebug;
+    use decline::BlockFaultPartialEq;
     use decline::Decline;
     use decline::Fault;
     use decline::FaultDebug;
@@ -117,6 +128,28 @@ mod tests {
         check_eq(Key::read(&bytes), Err(Fault::new(Decline::Number)))?;
         check(Rule::read(b"").is_ok())?;
         check(Rule::read(b"12345678901234567").is_err())
+    }
+
+    #[test]
+    fn blocks(rt: LibcRuntime) -> Result<(), Fail> {
+        let plan = Plan {
+            write: 1,
+            outcome: Outcome::Unreadable,
+        };
+        let array = BlockArray::new(rt.alloc(), 4, Some(plan))?;
+        let mut part = Partition::new(array, 1, 9);
+        check_eq(part.count(), 3)?;
+        let block = [7u8; 512];
+        let fault = BlockFault::new(Decline::Off, 2);
+        check_eq(write_two(&mut part, 0, &block, 2, &block), Err(fault))?;
+        part.resume();
+        let mut back = [0u8; 512];
+        check_eq(part.read(0, &mut back), Ok(()))?;
+        check(back[511] == 7)?;
+        let unreadable = BlockFault::new(Decline::Unreadable, 2);
+        check_eq(part.read(2, &mut back), Err(unreadable))?;
+        let beyond = BlockFault::new(Decline::Beyond, 3);
+        check_eq(part.read(3, &mut back), Err(beyond))
     }
 
     #[test]

@@ -10,6 +10,8 @@ use bytes::place_of;
 use decline::Decline;
 use decline::Fault;
 use examples::examples_hold;
+use law::replication_happens;
+use law::replication_laws_hold;
 use notation::LONGEST;
 use notation::read;
 use notation::write;
@@ -277,7 +279,12 @@ fn main(rt: LibcRuntime) -> Result<(), AnyError> {
     let mut out = Vec::new(rt.alloc());
     report(rt.alloc(), input.as_slice(), &mut out)?;
     rt.stdout().write_all(out.as_slice())?;
-    let count = examples_hold();
-    println!(rt, "{count} examples of the rules are proved")?;
+    let examples = examples_hold();
+    let laws = replication_laws_hold();
+    let finished = replication_happens();
+    println!(
+        rt,
+        "proved: {examples} examples, {laws} laws of runs, a run in which {finished} replications finish"
+    )?;
     Ok(())
 }

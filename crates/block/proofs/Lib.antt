@@ -1,0 +1,4 @@
+pub mod Zeros
+pub mod PlanRuns
+pub mod OneBlock
+pub mod PartCalls
