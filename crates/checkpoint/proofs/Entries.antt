@@ -6,12 +6,12 @@ use Prim.Native.Nat.{ℕ, suc, _+_, _-_, _<_, _≤_, min}
 use native.Mathlib.Omega.{arith}
 use lib.Dec.{eqb}
 use lib.ListN.{length, getD, set, take, drop}
-use Rattle.std.proofs.shelf.Lists.{take-all, take-take, take-more-set, map-more, map-push, drop-more, drop-all, drop-drop, drop-set-lt, getD-drop, length-take, length-set, set-getD, take-at, take-map, append-nil}
+use Rattle.std.proofs.shelf.Lists.{take-all, take-take, take-more-set, map-more, map-push, drop-more, drop-all, drop-drop, drop-set-lt, getD-drop, length-take, length-set, set-getD, take-at, take-map, append-nil, at-drop-more, at-drop-all}
 use Rattle.std.proofs.shelf.Tests.{cases-lt, eq-eqb, ne-eqb, cond-true, cond-false}
 use mathlib.Core.Logic.{⊎-elim}
 use Rattle.checkpoint.specs.declared.Entry.{Entry}
 use Rattle.checkpoint.specs.Values.{pair, pairs}
-use Rattle.checkpoint.specs.Logs.{Entries, listed, replaced, entered, common}
+use Rattle.checkpoint.specs.Logs.{Entries, listed, replaced, entered, settled, common}
 
 module _ {S : Type 0} (eq : S → S → Bool) where
   pub listed-push : (s : S) (es : Entries S) (e : S × ℕ) → listed eq s (es ++ (e ∷ [])) ≡ cond (listed eq s es) true (eq s (e .0))
@@ -164,3 +164,17 @@ module _ (s p : ℕ) (xs old part : List Entry) (n : ℕ) (b : Bool) (o : old �
       ap pairs q ∙ (sym (take-map pair 8 (record { stamp = s; position = p } ∷ was)) ∙
       (ap (λ (l : Entries ℕ). take 8 ((s, p) ∷ l)) (ap pairs w ∙ (r ∙ replaced-none eqb s p (pairs old) f)) ∙
       (sym (cond-false (listed eqb s (pairs old)) (replaced eqb s p (pairs old)) _ f) ∙ ap (λ (l : List Entry). entered eqb s p (pairs l)) o)))
+
+-- a search for a stamp with its position: the entry that has the stamp, one that has not, and the end
+module _ (s p i : ℕ) (es : List Entry) where
+  settled-step : (d : Entry) → i < length es → settled eqb s p (pairs (drop i es)) ≡ cond (eqb s (getD es i d .stamp)) (eqb p (getD es i d .position)) (settled eqb s p (pairs (drop (i + 1) es)))
+  settled-step d h = at-drop-more (λ l. settled eqb s p (pairs l)) es i d h
+
+  pub settled-here : (d : Entry) → i < length es → getD es i d .stamp ≡ s → settled eqb s p (pairs (drop i es)) ≡ eqb p (getD es i d .position)
+  settled-here d h e = settled-step d h ∙ cond-true _ _ _ (eq-eqb s _ (sym e))
+
+  pub settled-later : (d : Entry) → i < length es → (getD es i d .stamp ≡ s → ⊥) → settled eqb s p (pairs (drop i es)) ≡ settled eqb s p (pairs (drop (i + 1) es))
+  settled-later d h n = settled-step d h ∙ cond-false _ _ _ (ne-eqb s _ (λ e. n (sym e)))
+
+  pub settled-end : length es ≤ i → settled eqb s p (pairs (drop i es)) ≡ false
+  settled-end h = at-drop-all (λ l. settled eqb s p (pairs l)) es i h

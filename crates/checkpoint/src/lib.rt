@@ -7,7 +7,7 @@ ghost use lib.Dec.{eqb};
 ghost use lib.ListN.{length, take, drop};
 ghost use Rattle.std.specs.Options.{Cases as BySome, mapped};
 ghost use Rattle.order.specs.Lists.{nth};
-ghost use Rattle.checkpoint.specs.Logs.{Compared, listed, replaced};
+ghost use Rattle.checkpoint.specs.Logs.{Compared, listed, replaced, settled};
 ghost use Rattle.checkpoint.specs.Values.{pair, pairs, entries-of, Put, Met};
 use decline::Decline;
 use decline::Fault;
@@ -63,6 +63,13 @@ impl Log {
         }
     }
 
+    // Whether a stamp is there with this position already, so that writing it would change nothing.
+    pub fn holds(&self, stamp: u64, position: u32) -> bool
+        ensures { λ r. ⌜ r ≡ settled eqb stamp position (pairs (entries-of (now (self .entry)))) ⌝ }
+    {
+        settled_in(self.entries(), stamp, position)
+    }
+
     // An entry goes in front, and a ninth is dropped.
     fn push_front(&mut self, e: Entry)
         ensures { λ _. ⌜ entries-of (now (self .exit)) ≡ take 8 (e ∷ entries-of (now (self .entry))) ⌝ }
@@ -86,6 +93,18 @@ impl Log {
         }
         Ok(())
     }
+}
+
+// Whether the first entry with a stamp has this position.
+fn settled_in(entries: &[Entry], stamp: u64, position: u32) -> bool
+    ensures { λ r. ⌜ r ≡ settled eqb stamp position (pairs (now (entries .entry))) ⌝ }
+{
+    for e in entries {
+        if e.stamp == stamp {
+            return position == e.position;
+        }
+    }
+    false
 }
 
 // Replaces the position of a stamp, and says whether it is there.
