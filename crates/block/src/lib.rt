@@ -1,4 +1,6 @@
 // Block devices: the trait, an array of blocks in memory that fails by plan, and a part of any device.
+#![tactic(auto)]
+
 ghost use Rattle.std.specs.Prelude.{◌≡◌, true, length};
 ghost use Rattle.block.specs.Disk.{Disk, disk_of, Reads, Writes, WritesTwo};
 

@@ -1,4 +1,6 @@
 // Replication logs: at most 8 entries, newest first; log writes, and the comparison of two logs.
+#![tactic(auto)]
+
 ghost use Rattle.std.specs.Prelude.{◌≡◌, ℕ, ◌<◌, ◌≤◌, max, Bool, true, false, List, [], ◌∷◌, length, take, MatchOption, nat_eq};
 ghost use Rattle.std.specs.Option.{option_map};
 ghost use Rattle.order.specs.Lists.{nth};

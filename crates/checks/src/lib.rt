@@ -1,4 +1,6 @@
 // Plain examples, run.
+#![tactic(auto)]
+
 #[cfg(test)]
 mod tests {
     use block::{BlockArray, Device, Outcome, Partition, Plan, write_two};

@@ -1,6 +1,6 @@
 -- Faults and their parts.
 use Rattle.std.specs.Prelude.{ℕ}
-use Rattle.bytes.specs.declared.Packed.{Packed}
+use Rattle.octets.specs.declared.Packed.{Packed}
 use Rattle.decline.specs.declared.Fault.{Fault}
 use Rattle.decline.specs.declared.BlockFault.{BlockFault}
 use Rattle.decline.specs.declared.Side.{Side}

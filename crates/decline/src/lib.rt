@@ -1,10 +1,12 @@
 // Why a call is declined: the table of the decline numbers, and the fault that a decline hands out.
+#![tactic(auto)]
+
 ghost use Rattle.std.specs.Prelude.{◌≡◌, true, map, is_some};
 ghost use Rattle.std.specs.Option.{option_map};
 ghost use Rattle.decline.specs.Table.{rows, found, plain, number_of};
 ghost use Rattle.decline.specs.Faults.{side_number, bare, beside, about, at, above, block_fault};
 
-use bytes::Packed;
+use octets::Packed;
 
 // The layer that a decline speaks for.
 #[derive(Clone, Copy, PartialEq, Eq, Debug)]

@@ -1,4 +1,6 @@
 // The rules at work on small examples, joined in one statement.
+#![tactic(auto)]
+
 ghost use Rattle.std.specs.Prelude.{◌≡◌};
 ghost use Rattle.examples.specs.Examples.{Examples};
 

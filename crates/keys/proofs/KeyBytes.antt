@@ -5,11 +5,11 @@ use Rattle.std.proofs.lemmas.Slice.Eq.{slice_eq-Decides}
 use Rattle.std.proofs.lemmas.Bool.{cases_lt, and_from, and_left, and_right, eq-eqb, both_ways, not_from_true, not-false}
 use Rattle.order.specs.Lists.{same}
 use Rattle.order.proofs.Lists.{same_self, same_true}
-use Rattle.bytes.proofs.Packing.{Small, small_take, small_drop, number_small, length_filled}
+use Rattle.octets.proofs.Packing.{Small, small_take, small_drop, number_small, length_filled}
 use Rattle.keys.specs.Keys.{Key, good_rule, key_in, key_bytes, good_key}
 use borrow.Rule.Slice.PartMut.{put_mid}
 use Rattle.std.proofs.lemmas.List.{append-nil, take_all, drop_all, drop_more, length-drop, length-take}
-use Rattle.bytes.specs.BigEndian.{number, in_bytes, filled}
+use Rattle.octets.specs.BigEndian.{number, in_bytes, filled}
 use Rattle.std.proofs.lemmas.Bool.Decides.{Decides-eqb}
 
 -- two numbers, a length and a filled prefix over zeros

@@ -1,9 +1,9 @@
 -- Keys that are the same, and keys as bytes: a good key's bytes have the form of a key and give the key back.
 use Rattle.std.proofs.Common.{◌≡◌, ℕ, ◌^◌, ◌<◌, ◌≤◌, true, ◌&&◌, eqb, leb, [], ◌∷◌, length, take, refl, ap, ◌∙◌, arith}
 use Rattle.std.proofs.lemmas.Bool.{eqb-true, eq-eqb, and_from, and_parts, leb-true}
-use Rattle.bytes.specs.BigEndian.{number, in_bytes, filled}
-use Rattle.bytes.proofs.Widths.{number_in_bytes}
-use Rattle.bytes.proofs.Packing.{length_filled, take_filled}
+use Rattle.octets.specs.BigEndian.{number, in_bytes, filled}
+use Rattle.octets.proofs.Widths.{number_in_bytes}
+use Rattle.octets.proofs.Packing.{length_filled, take_filled}
 use Rattle.order.specs.Lists.{every, same}
 use Rattle.order.proofs.Lists.{same_true, same_self}
 use Rattle.revision.specs.Ids.{id_byte}

@@ -1,6 +1,6 @@
 -- Rules, and the keys of replication logs.
 use Rattle.std.specs.Prelude.{ℕ, Bool, true, false, not, ◌&&◌, List, [], ◌∷◌, ◌++◌, length, take, drop, ◌==◌, nat_le}
-use Rattle.bytes.specs.BigEndian.{number, in_bytes, filled}
+use Rattle.octets.specs.BigEndian.{number, in_bytes, filled}
 use Rattle.order.specs.Lists.{every, same}
 use Rattle.revision.specs.Ids.{Id, id_byte}
 

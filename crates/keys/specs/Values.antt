@@ -1,6 +1,6 @@
 -- What the code's rules and keys say in the words of the model.
 use Rattle.std.specs.Prelude.{◌≡◌, ℕ, true, false, ◌⊎◌, List, Some, None, Ok, Err, Result, ◌≢◌}
-use Rattle.bytes.specs.Packed.{unpacked, Packs}
+use Rattle.octets.specs.Packed.{unpacked, Packs}
 use Rattle.decline.specs.declared.Fault.{Fault}
 use Rattle.decline.specs.Faults.{bare}
 use Rattle.decline.specs.Verdicts.{first_failed}

@@ -1,10 +1,12 @@
 // Rules, which pass the documents whose ids begin with a prefix, and the keys of replication logs.
+#![tactic(auto)]
+
 ghost use Rattle.std.specs.Prelude.{◌≡◌, ℕ, ◌<◌, ◌≤◌, ◌++◌, length, take, drop};
-ghost use Rattle.bytes.specs.BigEndian.{number};
+ghost use Rattle.octets.specs.BigEndian.{number};
 ghost use Rattle.keys.specs.Keys.{passes, key_bytes, key_in};
 ghost use Rattle.keys.specs.Values.{RuleRead, KeyMade, FormRead, KeyRead, prefix_of, key_of};
 
-use bytes::{Packed, lay, number_of};
+use octets::{Packed, lay, number_of};
 use decline::{Decline, Fault};
 use revision::id_bytes;
 

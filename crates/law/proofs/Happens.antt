@@ -2,7 +2,7 @@
 use Rattle.std.proofs.Common.{◌≡◌, ℕ, zero, suc, ◌≤◌, min, Bool, true, false, cond, eqb, List, [], ◌∷◌, length, Some, None, sym, refl, ap, subst, inl, inr, arith}
 use Rattle.std.proofs.lemmas.Bool.{eqb-true}
 use Rattle.order.specs.Lists.{Mem, same}
-use Rattle.bytes.specs.BigEndian.{in_bytes}
+use Rattle.octets.specs.BigEndian.{in_bytes}
 use Rattle.revision.specs.Ids.{Id}
 use Rattle.revision.specs.Trees.{Content, Node, absent, inner, head, Tree, content_at, Compatible}
 use Rattle.revision.specs.Paths.{Path, path_tree}

@@ -1,5 +1,7 @@
 // The laws of replication over whole runs of two peers, and a run that they speak of. Nothing here is for a program to
 // call: a contract names each theorem, so that the check asks for its proof.
+#![tactic(auto)]
+
 ghost use Rattle.std.specs.Prelude.{◌≡◌};
 ghost use Rattle.law.specs.Laws.{Laws};
 ghost use Rattle.law.specs.Happens.{Happens};

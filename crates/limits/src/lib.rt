@@ -1,4 +1,6 @@
 // The limits of a peer in memory, reached and passed.
+#![tactic(auto)]
+
 ghost use Rattle.std.specs.Prelude.{IfOk};
 ghost use Rattle.memory.specs.State.{Kept};
 

@@ -1,4 +1,6 @@
 // A peer in memory: it stands at once and never goes down.
+#![tactic(auto)]
+
 ghost use Rattle.memory.specs.State.{state_of, Kept, Made};
 ghost use Rattle.tables.proofs.SoundLines.{sound_lined};
 

@@ -8,8 +8,8 @@ use Rattle.std.proofs.lemmas.Int.Digits.{digits_value_push}
 use Rattle.std.proofs.lemmas.List.{map_push, length-map, take_at, drop_at, append_assoc, length_push}
 use Rattle.std.proofs.lemmas.Bool.{and_from, and_parts, cond-true, cond-false, cond_both, eqb-true, ne_eqb, leb-true, ltb-true, lt-ltb}
 use Rattle.std.proofs.lemmas.Str.{digit_value-digit_char}
-use Rattle.bytes.specs.BigEndian.{in_base}
-use Rattle.bytes.proofs.Widths.{length_in_base}
+use Rattle.octets.specs.BigEndian.{in_base}
+use Rattle.octets.proofs.Widths.{length_in_base}
 use Rattle.notation.specs.Text.{all_digits, numeral, dash_in, revision, parse, stripped, digits_in, written}
 use Rattle.revision.specs.Ids.{good_generation}
 use Rattle.notation.specs.Outcomes.{Wrote}

@@ -4,7 +4,7 @@ use borrow.Rule.Slice.PartMut.{put_mid}
 use Rattle.std.specs.Char.{digit_char}
 use Rattle.std.proofs.lemmas.List.{drop-set, map_push, append_assoc, at_drop_more, drop_all, take_rest, drop_more, drop-drop, set_at, take_at, drop_at, length_push}
 use Rattle.std.proofs.lemmas.Bool.{cond-true, cond-false, eq-eqb, ne_eqb}
-use Rattle.bytes.specs.BigEndian.{in_base}
+use Rattle.octets.specs.BigEndian.{in_base}
 use Rattle.notation.specs.Text.{stripped, digits_in}
 
 -- the last digit apart

@@ -2,8 +2,8 @@
 use Rattle.std.specs.Prelude.{ℕ, zero, suc, ◌+◌, Bool, true, cond, ◌&&◌, List, [], ◌∷◌, ◌++◌, map, length, take, drop, Some, None, Option, ◌==◌, nat_le, nat_lt}
 use Rattle.std.specs.Str.Parse.{digits_value}
 use Rattle.std.specs.Char.{digit_value, digit_char}
-use Rattle.bytes.specs.BigEndian.{in_base}
-use Rattle.bytes.specs.Places.{place_of}
+use Rattle.octets.specs.BigEndian.{in_base}
+use Rattle.octets.specs.Places.{place_of}
 use Rattle.revision.specs.Ids.{good_generation}
 
 -- the byte between a generation and a tag

@@ -1,11 +1,13 @@
 // The text form of revisions: the generation in decimal, a dash, and the tag in hexadecimal.
+#![tactic(auto)]
+
 ghost use Rattle.std.specs.Prelude.{◌≡◌, ◌+◌, ◌^◌, ◌<◌, ◌≤◌, true, ◌∷◌, ◌++◌, length, drop, Some, None, MatchOption};
 ghost use Rattle.std.specs.Char.{digit_char};
 ghost use Rattle.notation.specs.Text.{numeral, dash, parse, stripped, digits_in};
 ghost use Rattle.revision.specs.Ids.{good_generation};
 ghost use Rattle.notation.specs.Outcomes.{Reads, Writes, Wrote};
 
-use bytes::place_of;
+use octets::place_of;
 use decline::{Decline, Fault};
 use revision::Revision;
 

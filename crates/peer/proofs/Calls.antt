@@ -1,7 +1,7 @@
 -- Calls one after the other: what has moved adds up, accepted writes join in order, and a call ends with what counts of its effect.
 use Rattle.std.proofs.Common.{◌≡◌, ℕ, ◌*◌, ◌≤◌, Bool, true, false, cond, ◌&&◌, eqb, leb, ◌⊎◌, [], ◌∷◌, length, Some, None, Option, sym, refl, ◌∙◌, subst, inl, inr, arith}
 use Rattle.std.proofs.lemmas.Bool.{and_parts, leb-true}
-use Rattle.bytes.proofs.Eights.{length_eights}
+use Rattle.octets.proofs.Eights.{length_eights}
 use Rattle.decline.specs.Verdicts.{first_failed}
 use Rattle.order.specs.Lists.{Each}
 use Rattle.revision.specs.Ids.{good_id, good_generation}

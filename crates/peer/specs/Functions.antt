@@ -2,7 +2,7 @@
 -- one relation of calls. Wake has a relation of its own.
 use Rattle.std.specs.Prelude.{◌≡◌, ℕ, ◌*◌, ◌<◌, ◌≤◌, Bool, true, false, cond, not, ◌&&◌, List, [], ◌∷◌, ◌++◌, length, drop, Some, None, Option, ◌==◌, ◌≢◌, nat_le}
 use Rattle.order.specs.Lists.{nth, every}
-use Rattle.bytes.specs.BigEndian.{eights}
+use Rattle.octets.specs.BigEndian.{eights}
 use Rattle.revision.specs.Ids.{Id, good_id, good_generation, good_tag}
 use Rattle.revision.specs.Trees.{Content, good_content, held, content_at}
 use Rattle.revision.specs.Paths.{Path, Contradicted, Line}

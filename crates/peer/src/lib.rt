@@ -2,8 +2,10 @@
 //
 // Every function but the number may have to reach a device or a link, so power may fail in each: they take the peer by
 // `&mut`. Each one's contract is an instance of one relation of calls between the peer's state before and after it.
+#![tactic(auto)]
+
 ghost use Rattle.std.specs.Prelude.{◌≡◌, length};
-ghost use Rattle.bytes.specs.BigEndian.{in_eights};
+ghost use Rattle.octets.specs.BigEndian.{in_eights};
 ghost use Rattle.checkpoint.specs.Values.{pair};
 ghost use Rattle.peer.specs.Peers.{Number, Peer as State};
 ghost use Rattle.peer.specs.Functions.{Function, Lined};

@@ -1,5 +1,7 @@
 // Tries every plan over a small scenario on an array of four blocks, and prints what each call answered and what the
 // blocks hold after the device is resumed.
+#![tactic(auto)]
+
 ghost use Rattle.std.specs.Prelude.{◌≡◌, true, Decides};
 ghost use Rattle.block.specs.Disk.{disk_of, Writes};
 ghost use Rattle.block.specs.Parts.{part, SameOutside};

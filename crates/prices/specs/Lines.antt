@@ -1,10 +1,10 @@
 -- The lines of the input: fields parted by one space.
 use Rattle.std.specs.Prelude.{◌≡◌, ℕ, ◌+◌, ◌<◌, ◌≤◌, Bool, true, false, cond, ◌⊎◌, List, [], ◌∷◌, length, take, drop, is_some, Some, None, Ok, Err, Option, Result, ◌==◌, nat_le, slice_index_or}
-use Rattle.bytes.specs.Places.{place_of}
+use Rattle.octets.specs.Places.{place_of}
 use Rattle.decline.specs.declared.Fault.{Fault}
 use Rattle.decline.specs.Faults.{bare}
 use Rattle.decline.specs.Verdicts.{first_failed}
-use Rattle.bytes.specs.Packed.{unpacked}
+use Rattle.octets.specs.Packed.{unpacked}
 use Rattle.revision.specs.declared.DocumentId.{DocumentId}
 use Rattle.revision.specs.declared.Revision.{Revision}
 use Rattle.revision.specs.declared.Mark.{Mark}

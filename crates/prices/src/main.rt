@@ -1,9 +1,11 @@
 // Reads the prices that were entered for products at several boards, a line each: product id, revision, mark (0 live,
 // 1 deleted) and body, parted by one space. Shows for each product the price in force and the conflicting ones.
+#![tactic(auto)]
+
 ghost use Rattle.std.specs.Prelude.{◌≡◌, ◌≤◌, length, Decides};
 ghost use Rattle.prices.specs.Lines.{front, behind, MarkField, line_read, IsFor, SaysSame, Found, Judged};
 
-use bytes::place_of;
+use octets::place_of;
 use decline::{Decline, Fault};
 use examples::examples_hold;
 use law::{replication_happens, replication_laws_hold};

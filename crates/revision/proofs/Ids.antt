@@ -3,9 +3,9 @@ use Rattle.std.proofs.Common.{◌≡◌, ℕ, ◌-◌, ◌<◌, ◌≤◌, Bool,
 use Rattle.std.proofs.lemmas.Bool.{and_from, le-leb}
 use Rattle.order.specs.Lists.{every}
 use Rattle.revision.specs.Ids.{id_byte, good_id, IsId}
-use Rattle.bytes.specs.declared.Packed.{Packed}
-use Rattle.bytes.specs.Packed.{sixteen, unpacked, Packs}
-use Rattle.bytes.proofs.Packing.{packs_once}
+use Rattle.octets.specs.declared.Packed.{Packed}
+use Rattle.octets.specs.Packed.{sixteen, unpacked, Packs}
+use Rattle.octets.proofs.Packing.{packs_once}
 
 pub good_id_from : (bs : List ℕ) → 1 ≤ length bs → length bs ≤ 16 → true ≡ every id_byte bs → good_id bs ≡ true
 good_id_from bs l m e = and_from (leb 1 (length bs)) _ (le-leb 1 (length bs) l) (and_from (leb (length bs) 16) _ (le-leb (length bs) 16 m) (sym e))

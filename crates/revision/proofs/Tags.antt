@@ -2,8 +2,8 @@
 use Rattle.std.proofs.Common.{◌≡◌, ℕ, ◌^◌, ◌<◌, ◌≤◌, true, List, [], ◌∷◌, length, arith}
 use Rattle.std.proofs.lemmas.Bool.{and_parts, leb-true}
 use Rattle.std.specs.List.{AllByRecursion as All}
-use Rattle.bytes.specs.BigEndian.{eights, in_eights}
-use Rattle.bytes.proofs.Widths.{eights_in_eights}
+use Rattle.octets.specs.BigEndian.{eights, in_eights}
+use Rattle.octets.proofs.Widths.{eights_in_eights}
 use Rattle.order.specs.Lists.{every}
 use Rattle.revision.specs.Ids.{good_tag}
 

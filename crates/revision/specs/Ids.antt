@@ -1,7 +1,7 @@
 -- Document ids, generations and tags.
 use Rattle.std.specs.Prelude.{◌≡◌, ℕ, Bool, true, ◌&&◌, List, length, nat_le}
-use Rattle.bytes.specs.declared.Packed.{Packed}
-use Rattle.bytes.specs.Packed.{unpacked, Packs}
+use Rattle.octets.specs.declared.Packed.{Packed}
+use Rattle.octets.specs.Packed.{unpacked, Packs}
 use Rattle.order.specs.Lists.{every}
 
 -- a document's id

@@ -1,9 +1,9 @@
 -- What the code's values say in the words of the model.
 use Rattle.std.specs.Prelude.{◌≡◌, ℕ, ◌<◌, ◌≤◌, Bool, true, false, cond, eqb, ◌⊎◌, List, [], ◌∷◌, ◌++◌, length, take, drop, Some, None, Ok, Err, Option, Result}
-use Rattle.bytes.specs.Packed.{unpacked, Packs}
+use Rattle.octets.specs.Packed.{unpacked, Packs}
 use Rattle.decline.specs.declared.Fault.{Fault}
 use Rattle.decline.specs.Faults.{bare}
-use Rattle.bytes.specs.declared.Packed.{Packed}
+use Rattle.octets.specs.declared.Packed.{Packed}
 use Rattle.order.specs.Lists.{Mem}
 use Rattle.order.specs.Order.{Arranged}
 use Rattle.revision.specs.declared.DocumentId.{DocumentId}

@@ -1,4 +1,6 @@
 // Document ids, revisions, marks and heads; the order of heads, winners and conflicts.
+#![tactic(auto)]
+
 ghost use Rattle.std.specs.Prelude.{◌≡◌, ℕ, ◌<◌, ◌≤◌, Bool, true, false, List, length, Decides};
 ghost use Rattle.order.specs.Lists.{every};
 ghost use Rattle.revision.specs.Ids.{id_byte, IsId};
@@ -7,7 +9,7 @@ ghost use Rattle.revision.specs.Laws.{TreeLaws};
 ghost use Rattle.revision.specs.Values.{IdRead, IdLaid, RevisionMade, mark_number, MarkRead, head_mark, Lower, Winner, Conflicts};
 ghost use Rattle.std.proofs.Common.{rules};
 
-use bytes::{Packed, lay};
+use octets::{Packed, lay};
 use decline::{Decline, Fault};
 use order::{Ranked, arrange, greatest};
 use std::cmp::Ordering;

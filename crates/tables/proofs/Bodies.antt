@@ -2,7 +2,7 @@
 use Rattle.std.proofs.Common.{◌≡◌, ℕ, ◌≤◌, Bool, true, ◌&&◌, leb, List, [], ◌∷◌, ◌++◌, length, get_or, take, drop, Some, Ok, vec_items, Option, sym, refl, ap, ◌∙◌, subst, arith}
 use Rattle.std.proofs.lemmas.List.{get_or_default, length-take}
 use Rattle.std.proofs.lemmas.Bool.{le-leb}
-use Rattle.bytes.specs.Packed.{unpacked}
+use Rattle.octets.specs.Packed.{unpacked}
 use Rattle.revision.specs.declared.DocumentId.{DocumentId}
 use Rattle.revision.specs.declared.Revision.{Revision}
 use Rattle.revision.specs.declared.Mark.{Mark}

@@ -1,7 +1,7 @@
 -- Contents of heads: what is laid into one, and when it keeps a mark and a body.
 use Rattle.std.proofs.Common.{◌≡◌, ℕ, ◌-◌, min, Bool, List, ◌++◌, length, take, Decides, sym, refl, ap, ◌∙◌}
 use Rattle.std.proofs.lemmas.List.{take_at}
-use Rattle.bytes.proofs.Packing.{take_clamped}
+use Rattle.octets.proofs.Packing.{take_clamped}
 use Rattle.revision.specs.Trees as Trees
 use Rattle.tables.specs.Paths.{content}
 

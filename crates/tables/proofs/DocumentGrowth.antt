@@ -3,7 +3,7 @@ use Rattle.std.proofs.Common.{◌≡◌, ℕ, zero, suc, ◌+◌, ◌<◌, ◌�
 use mathlib.Core.Path.{fun_ext}
 use Rattle.std.proofs.lemmas.List.{get_or-set_same, get_or-set_other, length-set, length-append, get_or_append_left, get_or_at}
 use Rattle.std.proofs.lemmas.Bool.{cases_eq, cases_lt, lt-ltb, le-ltb}
-use Rattle.bytes.specs.Packed.{unpacked}
+use Rattle.octets.specs.Packed.{unpacked}
 use Rattle.order.specs.Lists.{same}
 use Rattle.order.proofs.Lists.{same_true}
 use Rattle.revision.specs.declared.DocumentId.{DocumentId}

@@ -2,7 +2,7 @@
 use Rattle.std.proofs.Common.{◌≡◌, ℕ, true, List, get_or, Some, None, Ok, vec_items, Option, sym, refl, ap, ◌∙◌, subst}
 use Rattle.revision.specs.Ids.{Id}
 use Rattle.revision.specs.Trees.{held}
-use Rattle.bytes.specs.Packed.{unpacked}
+use Rattle.octets.specs.Packed.{unpacked}
 use Rattle.revision.specs.declared.DocumentId.{DocumentId}
 use Rattle.revision.specs.declared.Revision.{Revision}
 use Rattle.revision.specs.Values.{IdRead, RevisionMade}

@@ -2,8 +2,8 @@
 use Rattle.std.proofs.Common.{◌≡◌, ℕ, ◌*◌, ◌≤◌, ◌&&◌, eqb, leb, List, [], ◌∷◌, length, None, Ok, Err, Result, sym, subst, inr, arith}
 use Rattle.std.proofs.lemmas.Bool.{le-leb}
 use Rattle.decline.specs.declared.Fault.{Fault}
-use Rattle.bytes.specs.Packed.{unpacked}
-use Rattle.bytes.specs.BigEndian.{eights}
+use Rattle.octets.specs.Packed.{unpacked}
+use Rattle.octets.specs.BigEndian.{eights}
 use Rattle.revision.specs.declared.DocumentId.{DocumentId}
 use Rattle.revision.specs.declared.Mark.{Mark}
 use Rattle.revision.specs.declared.Mark.TheVariants.{Live, Deleted}

@@ -2,9 +2,9 @@
 use Rattle.std.proofs.Common.{◌≡◌, ℕ, zero, suc, ◌+◌, ◌-◌, ◌*◌, ◌^◌, ◌<◌, ◌≤◌, Bool, true, cond, List, length, get_or, take, drop, sym, refl, ap, ◌∙◌, arith}
 use Rattle.std.proofs.lemmas.List.{drop-drop, length-take}
 use Rattle.std.proofs.lemmas.Bool.{ne_eqb, le-leb}
-use Rattle.bytes.specs.BigEndian.{number, eights}
-use Rattle.bytes.proofs.Eights.{length_eights}
-use Rattle.bytes.proofs.Packing.{number_small, small_take, small_drop}
+use Rattle.octets.specs.BigEndian.{number, eights}
+use Rattle.octets.proofs.Eights.{length_eights}
+use Rattle.octets.proofs.Packing.{number_small, small_take, small_drop}
 use Rattle.revision.specs.Ids.{good_tag}
 use Rattle.revision.specs.Paths.{Path}
 use Rattle.tables.specs.Paths.{tag_at}

@@ -3,7 +3,7 @@ use Rattle.std.proofs.Common.{◌≡◌, ℕ, ◌+◌, ◌-◌, ◌<◌, ◌≤�
 use Rattle.std.proofs.lemmas.List.{length-append}
 use Rattle.std.proofs.lemmas.Bool.{and_from, and_parts, le-leb, leb-true, lt-ltb, ltb-true}
 use Rattle.decline.specs.declared.Fault.{Fault}
-use Rattle.bytes.specs.Packed.{unpacked}
+use Rattle.octets.specs.Packed.{unpacked}
 use Rattle.revision.specs.declared.DocumentId.{DocumentId}
 use Rattle.revision.specs.Ids.{IsId, good_tag}
 use Rattle.revision.specs.Trees as Trees

@@ -2,7 +2,7 @@
 use Rattle.std.proofs.Common.{◌≡◌, ℕ, ◌-◌, ◌*◌, ◌≤◌, Bool, cond, eqb, List, get_or, take, drop, Some, None, Option, sym, refl, ap, ◌∙◌, arith}
 use Rattle.std.proofs.lemmas.List.{take-take}
 use Rattle.std.proofs.lemmas.Bool.{ne_eqb, eq-eqb}
-use Rattle.bytes.specs.BigEndian.{number}
+use Rattle.octets.specs.BigEndian.{number}
 use Rattle.tables.specs.declared.HeldRevision.{HeldRevision}
 use Rattle.tables.specs.declared.Content.{Content}
 use Rattle.tables.specs.declared.Standing.TheVariants.{Missing, Agrees, Against}

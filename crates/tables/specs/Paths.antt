@@ -4,7 +4,7 @@ use Rattle.std.specs.List.{range_with_len}
 use Rattle.decline.specs.declared.Fault.{Fault}
 use Rattle.decline.specs.Faults.{bare}
 use Rattle.revision.specs.declared.DocumentId.{DocumentId}
-use Rattle.bytes.specs.BigEndian.{number}
+use Rattle.octets.specs.BigEndian.{number}
 use Rattle.revision.specs.Trees as Trees
 use Rattle.revision.specs.Trees.{Node, absent, inner, head, Tree}
 use Rattle.tables.specs.declared.Document.{Document}

@@ -1,14 +1,16 @@
 // What a board keeps in memory: tables of documents, held revisions, contents of heads and logs. Memory for them is
 // taken once, when they are made.
+#![tactic(auto)]
+
 ghost use Rattle.std.specs.Prelude.{◌≡◌, ◌+◌, ◌-◌, ◌*◌, ◌<◌, ◌≤◌, ◌++◌, length, IfSome, IfOk, if◌then◌else◌, Some, None, Ok, vec_len, vec_capacity, Decides, MatchOption, nat_eq, slice_index_or};
-ghost use Rattle.bytes.specs.Packed.{unpacked};
+ghost use Rattle.octets.specs.Packed.{unpacked};
 ghost use Rattle.order.specs.Lists.{same};
 ghost use Rattle.revision.specs.Values.{mark_number};
 ghost use Rattle.keys.specs.Keys.{same_key};
 ghost use Rattle.keys.specs.Values.{key_of};
 ghost use Rattle.checkpoint.specs.Values.{pair};
 ghost use Rattle.peer.specs.Records.{blank};
-ghost use Rattle.bytes.specs.BigEndian.{eights};
+ghost use Rattle.octets.specs.BigEndian.{eights};
 ghost use Rattle.revision.specs.Ids.{IsId};
 ghost use Rattle.peer.specs.Peers.{path};
 ghost use Rattle.peer.specs.Functions.{Function, path_given};
@@ -23,7 +25,7 @@ ghost use Rattle.tables.specs.contracts.Tables.{the_row};
 ghost use Rattle.tables.specs.contracts.HeldRevision.{the_row as revision-row};
 ghost use Rattle.tables.specs.Reads.{Answered, Reads, Stands, NextOf, Earlier, PathLength, PathReplied, Writes};
 
-use bytes::{Packed, lay, number_of};
+use octets::{Packed, lay, number_of};
 use checkpoint::{Entry, Log};
 use decline::{Decline, Fault};
 use keys::Key;

@@ -10,4 +10,4 @@ loop-i-init c =
     ∙ append-nil (digits_in c.args.base (length c.args.out.now) c.args.n)
 
 pub loop-i-preserved : goal.loop-i-preserved
-loop-i-preserved c = digits_down c.args.base c.loop-i.i c.loop-i.rest c.digit-char.result c.loop-i.out c.loop-i-test.true (omega arith) c.digit-char.ensures ∙ c.loop-i.invariant
+loop-i-preserved c = digits_down c.args.base c.loop-i.i c.loop-i.rest c.digit_char.result c.loop-i.out c.loop-i-test.true (omega arith) c.digit_char.ensures ∙ c.loop-i.invariant

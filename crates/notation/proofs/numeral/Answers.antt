@@ -9,19 +9,19 @@ use Rattle.notation.proofs.numeral.Goals as goal
 pub returns-then-text-eq0 : goal.returns-then-text-eq0
 returns-then-text-eq0 c = ⊎_elim (λ e. sym (numeral_empty _ _ _ e)) (λ h. sym (numeral_long _ _ _ h.1)) c.then-text-eq0.either
 
-pub returns-in-default : goal.returns-in-default
-returns-in-default c = sym (numeral_other _ _ _ (sym c.loop-c.invariant.2 ∙ other_here c.args.base c.args.text.now c.loop-c.c-index c.loop-c-test.true c.in-default.ensures.value))
+pub returns-in_default : goal.returns-in_default
+returns-in_default c = sym (numeral_other _ _ _ (sym c.loop-c.invariant.2 ∙ other_here c.args.base c.args.text.now c.loop-c.c-index c.loop-c-test.true c.in_default.ensures.value))
 
 next_fits : (c : goal.In-Some) → c.loop-c.n * c.args.base + c.in-Some.digit < 2 ^ 64
 next_fits c =
     fits_next c.args.base c.args.text.now c.loop-c.c-index c.loop-c-test.true _ _ c.loop-c.invariant.0 c.in-Some.ensures.value.1
     c.args.most (omega arith) c.requires.room c.loop-c.invariant.1 c.in-Some.ensures.value.0
 
-pub overflow-mul-n : goal.overflow-mul-n
-overflow-mul-n c = omega (arith, next_fits c)
+pub overflow_mul-n : goal.overflow_mul-n
+overflow_mul-n c = omega (arith, next_fits c)
 
-pub overflow-add-n : goal.overflow-add-n
-overflow-add-n c = omega (arith, next_fits c)
+pub overflow_add-n : goal.overflow_add-n
+overflow_add-n c = omega (arith, next_fits c)
 
 pub loop-c-preserved : goal.loop-c-preserved
 loop-c-preserved c = (

@@ -4,8 +4,8 @@ use Rattle.prices.proofs.cut.Goals as goal
 
 pub returns : goal.returns
 returns c =
-    let n : c.min-next.result ≡ min (c.place-of-at.result + 1) (length c.args.text.now) = search rules in
+    let n : c.min-next.result ≡ min (c.place_of-at.result + 1) (length c.args.text.now) = search rules in
     record {
-      before = front_part c.args.b c.args.text.now _ c.place-of-at.ensures.place;
-      after = behind_part c.args.b c.args.text.now _ _ c.place-of-at.ensures.place n;
+      before = front_part c.args.b c.args.text.now _ c.place_of-at.ensures.place;
+      after = behind_part c.args.b c.args.text.now _ _ c.place_of-at.ensures.place n;
     }

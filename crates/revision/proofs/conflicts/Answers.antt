@@ -2,4 +2,4 @@ use Rattle.revision.proofs.LiveFront.{conflicts_behind}
 use Rattle.revision.proofs.conflicts.Goals as goal
 
 pub returns : goal.returns
-returns c = conflicts_behind c.args.heads.now c.arrange.new.xs _ _ c.arrange.ensures c.live-in.ensures c.saturating-sub.ensures
+returns c = conflicts_behind c.args.heads.now c.arrange.new.xs _ _ c.arrange.ensures c.live_in.ensures c.saturating_sub.ensures

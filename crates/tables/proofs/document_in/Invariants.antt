@@ -1,5 +1,5 @@
 use Rattle.std.proofs.Common.{◌≡◌, drop}
-use Rattle.bytes.specs.Packed.{unpacked}
+use Rattle.octets.specs.Packed.{unpacked}
 use Rattle.tables.specs.Searches.{place}
 use Rattle.tables.specs.Tables.{is_document}
 use Rattle.tables.proofs.document_in.Given as goal

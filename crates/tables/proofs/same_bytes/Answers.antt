@@ -1,6 +1,6 @@
 use Rattle.std.proofs.Common.{◌≡◌, ℕ, List, Decides, subst₂}
 use Rattle.std.proofs.lemmas.Slice.Eq.{slice_eq-Decides}
-use Rattle.bytes.proofs.Packing.{unpacked_part}
+use Rattle.octets.proofs.Packing.{unpacked_part}
 use Rattle.tables.proofs.Keys.{same_if}
 use Rattle.tables.proofs.same_bytes.Goals as goal
 use Rattle.std.proofs.lemmas.Bool.Decides.{Decides-eqb}

@@ -8,4 +8,4 @@ unfolding tag_at
 returns-then-g-eq0 c = search rules
 
 pub returns-else-g-eq0 : goal.returns-else-g-eq0
-returns-else-g-eq0 c = tag_bytes c.args.tags.now c.args.g c.number-of.result c.if-g-eq0.false c.number-of.ensures
+returns-else-g-eq0 c = tag_bytes c.args.tags.now c.args.g c.number_of.result c.if-g-eq0.false c.number_of.ensures

@@ -1,5 +1,5 @@
 use Rattle.std.proofs.Common.{◌≡◌, length, rules}
-use Rattle.bytes.proofs.Packing.{take_clamped}
+use Rattle.octets.proofs.Packing.{take_clamped}
 use Rattle.checkpoint.proofs.Log.entries.Goals as goal
 
 pub returns : goal.returns

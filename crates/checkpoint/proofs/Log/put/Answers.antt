@@ -1,5 +1,5 @@
 use Rattle.std.proofs.Common.{◌≡◌, length, ap, ◌∙◌, arith, rules}
-use Rattle.bytes.proofs.Packing.{take_clamped}
+use Rattle.octets.proofs.Packing.{take_clamped}
 use Rattle.checkpoint.specs.Values.{pairs}
 use Rattle.checkpoint.proofs.Entries.{in_use, enters_there, enters_new}
 use Rattle.checkpoint.proofs.Log.put.Goals as goal
@@ -13,7 +13,7 @@ returns-then-not-replace c =
       λ e. omega arith,
       enters_new c.args.stamp c.args.position xs _ c.replace.new.entries c.args.self.now.count c.replace.result
           (take_clamped xs c.args.self.now.count _ 8 l c.min-n.ensures) c.replace.ensures.there c.replace.ensures.after c.if-not-replace.true
-          _ _ u c.push-front.ensures,
+          _ _ u c.push_front.ensures,
     )
 
 pub returns-else-not-replace : goal.returns-else-not-replace

@@ -1,6 +1,6 @@
 use Rattle.std.proofs.Common.{◌≡◌, ◌-◌, ◌≤◌, min, length, take, sym, ◌∙◌, arith}
-use Rattle.bytes.proofs.Packing.{filled_laid, unpacked_part, length_unpacked}
-use Rattle.bytes.proofs.Widths.{four_bytes}
+use Rattle.octets.proofs.Packing.{filled_laid, unpacked_part, length_unpacked}
+use Rattle.octets.proofs.Widths.{four_bytes}
 use Rattle.keys.specs.Values.{prefix_of}
 use Rattle.keys.proofs.KeyBytes.{assembled}
 use Rattle.keys.proofs.Key.bytes.Goals as goal
@@ -12,6 +12,6 @@ returns c =
     let n : length r ≡ min c.args.self.rule.prefix.length 16 = length_unpacked c.args.self.rule.prefix in
     let l : length r ≤ 16 = omega arith in
     assembled _ _ _ r _ c.args.self.source c.args.self.target
-    (c.copy-from-slice.ensures.after ∙ (c.to-be-bytes.ensures ∙ sym (four_bytes c.args.self.source)))
-    (c.copy-from-slice-2.ensures.after ∙ (c.to-be-bytes-2.ensures ∙ sym (four_bytes c.args.self.target)))
-    (c.copy-from-slice-3.ensures.after ∙ filled_laid 16 c.lay.result _ r _ _ u l c.lay.ensures) (c.min-n.ensures ∙ sym n)
+    (c.copy_from_slice.ensures.after ∙ (c.to_be_bytes.ensures ∙ sym (four_bytes c.args.self.source)))
+    (c.copy_from_slice-2.ensures.after ∙ (c.to_be_bytes-2.ensures ∙ sym (four_bytes c.args.self.target)))
+    (c.copy_from_slice-3.ensures.after ∙ filled_laid 16 c.lay.result _ r _ _ u l c.lay.ensures) (c.min-n.ensures ∙ sym n)

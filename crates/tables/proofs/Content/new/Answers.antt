@@ -1,5 +1,5 @@
 use Rattle.revision.specs.Values.{mark_number}
-use Rattle.bytes.proofs.Packing.{laid}
+use Rattle.octets.proofs.Packing.{laid}
 use Rattle.std.proofs.Common.{length}
 use Rattle.tables.proofs.Contents.{laid_body}
 use Rattle.tables.proofs.Content.new.Goals as goal

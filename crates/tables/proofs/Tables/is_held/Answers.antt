@@ -5,6 +5,6 @@ use Rattle.tables.proofs.Tables.is_held.Goals as goal
 
 pub returns-in-Some : goal.returns-in-Some
 returns-in-Some c =
-    let i = c.in-ok-id.ensures in
-    let m = c.in-ok-revision.ensures in
-    (revision_given _ _ _ c.in-ok-id.id c.in-ok-revision.revision [] i m, refl, held_there c.args.self.now _ _ _ c.in-Some.field-0 (stands_given c.args.self.now _ _ _ c.in-ok-id.id c.in-ok-revision.revision (Some c.in-Some.field-0) i m c.in-Some.ensures))
+    let i = c.in_ok-id.ensures in
+    let m = c.in_ok-revision.ensures in
+    (revision_given _ _ _ c.in_ok-id.id c.in_ok-revision.revision [] i m, refl, held_there c.args.self.now _ _ _ c.in-Some.field-0 (stands_given c.args.self.now _ _ _ c.in_ok-id.id c.in_ok-revision.revision (Some c.in-Some.field-0) i m c.in-Some.ensures))

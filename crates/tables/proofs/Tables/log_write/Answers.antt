@@ -9,14 +9,14 @@ pub returns-then-len-ge8 : goal.returns-then-len-ge8
 returns-then-len-ge8 c =
     let t = c.args.self.now in
     let h : 8 ≤ length (vec_items t.logs) = search rules in
-    record { sound = c.requires; writes = written_full t c.args.key.now c.args.stamp c.args.position c.in-Ok.key _ c.as-slice.ensures.value c.in-Ok.ensures c.if-stamp-eq0.false c.in-None.ensures.value _ h c.new-then-len-ge8.ensures }
+    record { sound = c.requires; writes = written_full t c.args.key.now c.args.stamp c.args.position c.in-Ok.key _ c.as_slice.ensures.value c.in-Ok.ensures c.if-stamp-eq0.false c.in-None.ensures.value _ h c.new-then-len-ge8.ensures }
 
 pub returns-then-not-holds : goal.returns-then-not-holds
 returns-then-not-holds c =
     let t = c.args.self.now in
     let e = sym c.if-not-holds.true ∙ (c.holds.ensures ∙ ap (λ (l : KeyedLog). settled eqb c.args.stamp c.args.position (pairs (entries_of l.log))) c.index.ensures) in
-    let w = written_there t c.args.key.now c.args.stamp c.args.position c.in-Ok.key _ c.as-slice.ensures.value c.in-Ok.ensures c.if-stamp-eq0.false
-    c.in-Some.at c.index.result.now c.in-Some.ensures.value _ e c.enter-at.ensures c.requires in
+    let w = written_there t c.args.key.now c.args.stamp c.args.position c.in-Ok.key _ c.as_slice.ensures.value c.in-Ok.ensures c.if-stamp-eq0.false
+    c.in-Some.at c.index.result.now c.in-Some.ensures.value _ e c.enter_at.ensures c.requires in
     record { sound = w.0; writes = w.1 }
 
 pub returns-else-not-holds : goal.returns-else-not-holds
@@ -25,7 +25,7 @@ returns-else-not-holds c =
     let e = sym c.if-not-holds.false ∙ (c.holds.ensures ∙ ap (λ (l : KeyedLog). settled eqb c.args.stamp c.args.position (pairs (entries_of l.log))) c.index.ensures) in
     record {
       sound = c.requires;
-      writes = written_same t c.args.key.now c.args.stamp c.args.position c.in-Ok.key _ c.as-slice.ensures.value c.in-Ok.ensures c.if-stamp-eq0.false
+      writes = written_same t c.args.key.now c.args.stamp c.args.position c.in-Ok.key _ c.as_slice.ensures.value c.in-Ok.ensures c.if-stamp-eq0.false
           c.in-Some.at c.index.result.now c.in-Some.ensures.value e;
     }
 
@@ -33,6 +33,6 @@ pub returns-else-len-ge8 : goal.returns-else-len-ge8
 returns-else-len-ge8 c =
     let t = c.args.self.now in
     let h : length (vec_items t.logs) < 8 = search rules in
-    let w = written_new t c.args.key.now c.args.stamp c.args.position c.in-Ok.key _ c.as-slice.ensures.value c.in-Ok.ensures c.if-stamp-eq0.false
-    c.in-None.ensures.value _ c.enter-new.ensures.entry h c.enter-new.ensures c.requires in
+    let w = written_new t c.args.key.now c.args.stamp c.args.position c.in-Ok.key _ c.as_slice.ensures.value c.in-Ok.ensures c.if-stamp-eq0.false
+    c.in-None.ensures.value _ c.enter_new.ensures.entry h c.enter_new.ensures c.requires in
     record { sound = w.0; writes = w.1 }

@@ -3,4 +3,4 @@ use Rattle.tables.proofs.Tables.place_of.Goals as goal
 
 pub returns-in-Some : goal.returns-in-Some
 returns-in-Some c =
-    stands_found c.args.self.now _ _ _ _ _ _ _ c.as-slice.ensures.value c.as-slice-in-Some.ensures.value c.in-Some.ensures.value c.revision-in.ensures.value
+    stands_found c.args.self.now _ _ _ _ _ _ _ c.as_slice.ensures.value c.as_slice-in-Some.ensures.value c.in-Some.ensures.value c.revision_in.ensures.value

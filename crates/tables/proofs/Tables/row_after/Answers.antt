@@ -7,11 +7,11 @@ use Rattle.tables.proofs.Tables.row_after.Goals as goal
 pub returns : goal.returns
 returns c =
     let t = c.args.self.now in
-    let w = subst (λ (ds : List Document). NextOf ds (length ds) c.args.n c.next-in.result) c.as-slice.ensures.value c.next-in.ensures in
+    let w = subst (λ (ds : List Document). NextOf ds (length ds) c.args.n c.next_in.result) c.as_slice.ensures.value c.next_in.ensures in
     let ds = vec_items t.documents in
     let rs = vec_items t.revisions in
     let cs = vec_items t.contents in
     let s = c.requires.documents in record {
-      named = row_id ds rs cs t.highest c.args.n s c.next-in.result w;
-      row = (refl, refl, (row_from ds rs cs t.highest c.args.n s c.next-in.result w, row_good ds rs cs t.highest c.args.n s c.next-in.result w));
+      named = row_id ds rs cs t.highest c.args.n s c.next_in.result w;
+      row = (refl, refl, (row_from ds rs cs t.highest c.args.n s c.next_in.result w, row_good ds rs cs t.highest c.args.n s c.next_in.result w));
     }

@@ -2,7 +2,7 @@
 use Rattle.std.proofs.Common.{◌≡◌, ℕ, suc, ◌+◌, ◌<◌, cond, eqb, List, ◌∷◌, length, get_or, drop, ◌∙◌}
 use Rattle.std.proofs.lemmas.List.{at_drop_more}
 use Rattle.std.proofs.lemmas.Bool.{cond-true, cond-false, eq-eqb, ne_eqb}
-use Rattle.bytes.specs.Places.{place_of}
+use Rattle.octets.specs.Places.{place_of}
 
 module _ (b : ℕ) (cs : List ℕ) (i : ℕ) (h : i < length cs) where
   step : place_of b (drop i cs) ≡ cond (eqb (get_or cs i 0) b) 0 (suc (place_of b (drop (i + 1) cs)))

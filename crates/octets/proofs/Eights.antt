@@ -3,8 +3,8 @@ use Rattle.std.proofs.Common.{◌≡◌, ℕ, zero, suc, ◌+◌, ◌-◌, ◌*�
 use borrow.Rule.Slice.PartMut.{put_mid}
 use Rattle.std.proofs.lemmas.List.Edits.{paste_all}
 use Rattle.std.proofs.lemmas.Slice.{put_mid-paste}
-use Rattle.bytes.specs.BigEndian.{in_bytes, eights, in_eights, with_eight}
-use Rattle.bytes.proofs.Widths.{length_in_bytes}
+use Rattle.octets.specs.BigEndian.{in_bytes, eights, in_eights, with_eight}
+use Rattle.octets.proofs.Widths.{length_in_bytes}
 
 pub length_eights : (k : ℕ) (bs : List ℕ) → length (eights k bs) ≡ k
 length_eights zero bs = refl

@@ -1,8 +1,8 @@
 use Rattle.std.proofs.Common.{arith}
 use Rattle.std.proofs.lemmas.List.{at_drop_all}
-use Rattle.bytes.specs.Places.{place_of}
-use Rattle.bytes.proofs.Searching.{place_here, place_later}
-use Rattle.bytes.proofs.place_of.Goals as goal
+use Rattle.octets.specs.Places.{place_of}
+use Rattle.octets.proofs.Searching.{place_here, place_later}
+use Rattle.octets.proofs.place_of.Goals as goal
 
 pub returns-then-c-b : goal.returns-then-c-b
 returns-then-c-b c = record {

@@ -6,10 +6,10 @@ use Rattle.std.proofs.lemmas.Bool.{cases_lt}
 use Rattle.std.proofs.lemmas.Int.Digits.{number_lt}
 use Rattle.std.proofs.ByRecursion.{All-from_get_or}
 use native.Mathlib.Nat.{pow-le-pow_right}
-use Rattle.bytes.specs.BigEndian.{number, in_bytes, filled}
-use Rattle.bytes.specs.Packed.{sixteen, unpacked, packed, Packs}
-use Rattle.bytes.specs.declared.Packed.{Packed}
-use Rattle.bytes.proofs.Widths.{in_bytes_number}
+use Rattle.octets.specs.BigEndian.{number, in_bytes, filled}
+use Rattle.octets.specs.Packed.{sixteen, unpacked, packed, Packs}
+use Rattle.octets.specs.declared.Packed.{Packed}
+use Rattle.octets.proofs.Widths.{in_bytes_number}
 
 pub length_filled : (k : ℕ) (bs : List ℕ) → length (filled k bs) ≡ k
 length_filled k bs = length-take-le k (bs ++ replicate k 0) (omega (arith, length-append bs (replicate k 0), length-replicate {A = ℕ} k 0))

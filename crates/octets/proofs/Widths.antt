@@ -6,7 +6,7 @@ use Rattle.std.proofs.lemmas.Bool.{cases_lt}
 use Rattle.std.proofs.lemmas.Nat.{div-add-mod', div-mul-add, mod-mul-add}
 use Rattle.std.proofs.lemmas.List.{take_more, take_all, length_push, nil_from_length, length-take-le, get_or_past, take_at, drop_at}
 use Rattle.std.specs.List.{AllByRecursion as All}
-use Rattle.bytes.specs.BigEndian.{number, in_base, in_bytes, eights, in_eights}
+use Rattle.octets.specs.BigEndian.{number, in_base, in_bytes, eights, in_eights}
 use Rattle.std.specs.Int.Digits
 
 pub pow_more : (i : ℕ) → 256 ^ (i + 1) ≡ 256 * 256 ^ i

@@ -1,15 +1,15 @@
 use Rattle.std.proofs.Common.{get_or, ap, ◌∙◌, arith}
 use Rattle.std.proofs.lemmas.Int.Digits.{number_more}
 use Rattle.std.proofs.lemmas.List.{take_all}
-use Rattle.bytes.specs.BigEndian.{number}
-use Rattle.bytes.proofs.Widths.{more_lt, room}
-use Rattle.bytes.proofs.number_in.Goals as goal
+use Rattle.octets.specs.BigEndian.{number}
+use Rattle.octets.proofs.Widths.{more_lt, room}
+use Rattle.octets.proofs.number_in.Goals as goal
 
-pub overflow-mul-n : goal.overflow-mul-n
-overflow-mul-n c = let r = room c.loop-b.n c.loop-b.b-index c.loop-b.invariant.1 (omega arith) in omega arith
+pub overflow_mul-n : goal.overflow_mul-n
+overflow_mul-n c = let r = room c.loop-b.n c.loop-b.b-index c.loop-b.invariant.1 (omega arith) in omega arith
 
-pub overflow-add-n : goal.overflow-add-n
-overflow-add-n c = let r = room c.loop-b.n c.loop-b.b-index c.loop-b.invariant.1 (omega arith) in omega arith
+pub overflow_add-n : goal.overflow_add-n
+overflow_add-n c = let r = room c.loop-b.n c.loop-b.b-index c.loop-b.invariant.1 (omega arith) in omega arith
 
 pub loop-b-preserved : goal.loop-b-preserved
 loop-b-preserved c = (

@@ -1,7 +1,7 @@
 -- At most 16 bytes as two numbers and a length.
 use Rattle.std.specs.Prelude.{◌≡◌, ℕ, ◌≤◌, List, ◌++◌, length, take, drop}
-use Rattle.bytes.specs.declared.Packed.{Packed}
-use Rattle.bytes.specs.BigEndian.{number, in_bytes, filled}
+use Rattle.octets.specs.declared.Packed.{Packed}
+use Rattle.octets.specs.BigEndian.{number, in_bytes, filled}
 
 -- the bytes of both numbers
 abbrev pub sixteen : Packed → List ℕ

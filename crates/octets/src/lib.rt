@@ -1,8 +1,10 @@
 // Bytes as numbers, the highest first, and bytes laid into lent memory.
+#![tactic(auto)]
+
 ghost use Rattle.std.specs.Prelude.{◌≡◌, ℕ, ◌+◌, ◌*◌, ◌<◌, ◌≤◌, List, ◌++◌, length, take, drop, MatchBool, MatchOption};
-ghost use Rattle.bytes.specs.BigEndian.{number, with_eight};
-ghost use Rattle.bytes.specs.Places.{place_of};
-ghost use Rattle.bytes.specs.Packed.{sixteen, Packs};
+ghost use Rattle.octets.specs.BigEndian.{number, with_eight};
+ghost use Rattle.octets.specs.Places.{place_of};
+ghost use Rattle.octets.specs.Packed.{sixteen, Packs};
 
 // The number that at most 8 bytes write.
 fn number_in(bytes: &[u8]) -> u64
