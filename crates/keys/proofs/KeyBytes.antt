@@ -1,6 +1,6 @@
 -- A key's bytes, laid out part by part, and read back.
 use Rattle.std.proofs.Common.{◌≡◌, ℕ, ◌+◌, ◌-◌, ◌^◌, ◌<◌, ◌≤◌, min, Bool, true, false, not, eqb, List, [], ◌∷◌, ◌++◌, length, get_or, take, drop, set, replicate, Decides, sym, refl, ap, ◌∙◌, ⊎_elim, arith}
-use Rattle.std.specs.Cmp.Lexicographic.{Matches}
+use Rattle.std.specs.Cmp.Lexicographic.{pointwise}
 use Rattle.std.proofs.lemmas.Slice.Eq.{slice_eq-Decides}
 use Rattle.std.proofs.lemmas.Bool.{cases_lt, and_from, and_left, and_right, eq-eqb, both_ways, not_from_true, not-false}
 use Rattle.order.specs.Lists.{same}
@@ -69,11 +69,11 @@ form_bad bs n = and_right (eqb (length bs) 25) _ (and_right (good_rule (key_in b
     go false e = refl
 
 -- what `!=` says of bytes
-pub unequal : (bs cs : List ℕ) (x r : Bool) → Matches (λ (a b : ℕ) (t : Bool). Decides t (a ≡ b)) bs cs x → r ≡ not x → (r ≡ true → bs ≡ cs → ⊥) × (r ≡ false → bs ≡ cs)
-unequal bs cs x r m e =
-    let d = slice_eq-Decides Decides-eqb bs cs x m in (
-      (λ t q. both_ways r (e ∙ not_from_true x (d.1 q)) t),
-      λ f. d.0 (not-false x (sym e ∙ f)),
+pub unequal : (bs cs : List ℕ) (r : Bool) → r ≡ not (pointwise eqb bs cs) → (r ≡ true → bs ≡ cs → ⊥) × (r ≡ false → bs ≡ cs)
+unequal bs cs r e =
+    let d = slice_eq-Decides Decides-eqb bs cs _ refl in (
+      (λ t q. both_ways r (e ∙ not_from_true _ (d.1 q)) t),
+      λ f. d.0 (not-false _ (sym e ∙ f)),
     )
 
 -- a key's bytes are 25

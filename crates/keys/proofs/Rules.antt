@@ -1,6 +1,6 @@
 -- Prefixes, and the ids that begin with them.
 use Rattle.std.proofs.Common.{◌≡◌, ℕ, ◌≤◌, Bool, true, false, ◌&&◌, eqb, leb, List, [], ◌∷◌, ◌++◌, length, take, drop, Decides, sym, refl, ap, ◌∙◌, arith}
-use Rattle.std.specs.Cmp.Lexicographic.{Matches}
+use Rattle.std.specs.Cmp.Lexicographic.{pointwise}
 use Rattle.std.proofs.lemmas.Bool.{and_from, and_parts, le-leb, eq-eqb, eqb-true, false≢true}
 use Rattle.std.proofs.lemmas.Bool.Decides.{same_from_decides, Decides-eqb}
 use Rattle.std.proofs.lemmas.Slice.Eq.{starts_is}
@@ -27,7 +27,7 @@ begins_passes [] rest = refl
 begins_passes (x ∷ xs) rest = and_from (eqb x x) _ (eq-eqb x x refl) (begins_passes xs rest)
 
 -- so does `starts_with`
-pub starts_passes : (p q d : List ℕ) (r : Bool) → q ≡ p → Matches (λ (a b : ℕ) (t : Bool). Decides t (a ≡ b)) q (take (length q) d) r → r ≡ passes p d
+pub starts_passes : (p q d : List ℕ) (r : Bool) → q ≡ p → r ≡ pointwise eqb q (take (length q) d) → r ≡ passes p d
 starts_passes p q d r e m =
     let s = starts_is Decides-eqb d q r m in
     same_from_decides {P = (rest : List ℕ) × (d ≡ p ++ rest)} r (passes p d)

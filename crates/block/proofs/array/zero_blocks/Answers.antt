@@ -6,4 +6,4 @@ pub loop-i-preserved : goal.loop-i-preserved
 loop-i-preserved c = (one_more _ _ _ _ c.loop-i.invariant.0 c.push_reserved.ensures.items, omega arith, search rules)
 
 pub returns : goal.returns
-returns c = (as_many _ _ c.loop-i.-i c.args.count c.loop-i.invariant.0 (omega arith), omega arith)
+returns c = (as_many _ _ c.loop-i._i c.args.count c.loop-i.invariant.0 (omega arith), omega arith)

@@ -17,7 +17,7 @@ returns-then-ne c =
     let l : length bs ≡ 25 = omega arith in
     let p = c.in-Ok.ensures.2 ∙ (c.part.ensures ∙ rule_part bs l) in
     let k : key_of (record { source = c.args.source; target = c.args.target; rule = c.in-Ok.rule }) ≡ key_in bs = λ i. record { source = c.requires.0 i; target = c.requires.1 i; rule = p i } in
-    let u = unequal bs _ _ _ c.ne.ensures.1 c.ne.ensures.2 in
+    let u = unequal bs _ _ c.ne.ensures in
     (form_bad bs (λ q. u.0 c.if-ne.true (q ∙ sym (key_bytes_long _ _ c.bytes-back.ensures ∙ ap key_bytes k))), c.new-then-ne.ensures)
 
 pub returns : goal.returns
@@ -28,5 +28,5 @@ returns c =
     let w = c.part.ensures ∙ rule_part bs l in
     let p = r.2 ∙ w in
     let k : key_of (record { source = c.args.source; target = c.args.target; rule = c.in-Ok.rule }) ≡ key_in bs = λ i. record { source = c.requires.0 i; target = c.requires.1 i; rule = p i } in
-    let u = unequal bs _ _ _ c.ne.ensures.1 c.ne.ensures.2 in
+    let u = unequal bs _ _ c.ne.ensures in
     (form_good bs l (ap good_rule (sym w) ∙ r.0) (u.1 c.if-ne.false ∙ (key_bytes_long _ _ c.bytes-back.ensures ∙ ap key_bytes k)), k)
