@@ -1,7 +1,7 @@
 -- No call changes another block than the one that it is asked for.
 use Rattle.std.proofs.Common.{◌≡◌, ℕ, ◌⊎◌, List, set, Some, None, Ok, Err, Option, Result, ap, inl, inr, ⊎_elim}
 use Rattle.decline.specs.declared.BlockFault.{BlockFault}
-use Rattle.block.specs.Disk.{Disk, Torn, Reads, ReadDeclined, Writes, WriteDeclined}
+use Rattle.block.specs.Disk.{Disk, Torn, Reads, Writes}
 
 module _ (d e : Disk) (n : ℕ) (bs : List ℕ) where
   torn_one : Torn d n bs e → (v : Option (List ℕ)) × ((e.blocks ≡ d.blocks) ⊎ (e.blocks ≡ set d.blocks n v))

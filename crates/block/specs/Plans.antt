@@ -1,5 +1,5 @@
 -- The array of blocks: what it is as a disk, and how it fails by plan.
-use Rattle.std.specs.Prelude.{◌≡◌, ℕ, ◌-◌, ◌^◌, ◌<◌, Bool, true, false, cond, ◌⊎◌, List, length, replicate, Some, None, Ok, Err, vec_items, vec_len, vec_capacity, Option, Result, ◌==◌, slice_set}
+use Rattle.std.specs.Prelude.{◌≡◌, ℕ, ◌-◌, ◌^◌, ◌<◌, true, false, cond, ◌⊎◌, List, replicate, Some, None, Ok, Err, vec_items, vec_len, vec_capacity, Option, Result, ◌==◌, slice_set}
 use Rattle.decline.specs.declared.BlockFault.{BlockFault}
 use Rattle.block.specs.declared.array.BlockArray.{BlockArray}
 use Rattle.block.specs.declared.array.Outcome.{Outcome}

@@ -4,7 +4,7 @@ use Rattle.std.proofs.lemmas.Bool.{eqb-true}
 use Rattle.order.specs.Lists.{Mem}
 use Rattle.revision.specs.Ids.{Id}
 use Rattle.revision.specs.Trees.{Content, Node, absent, inner, head, Tree, held, parent, content_at, Compatible}
-use Rattle.revision.specs.Paths.{Path, path_tree, written, Contradicted, contradicted, known, added}
+use Rattle.revision.specs.Paths.{path_tree, written, contradicted, known, added}
 use Rattle.revision.specs.Heads.{Head, Heads, Descending, winner, conflicts}
 use Rattle.revision.proofs.Heads.{same_lists}
 use Rattle.examples.specs.Examples.{Examples, a_head, a_path, Both}

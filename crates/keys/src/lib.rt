@@ -6,8 +6,8 @@ ghost use Rattle.octets.specs.BigEndian.{number};
 ghost use Rattle.keys.specs.Keys.{passes, key_bytes, key_in};
 ghost use Rattle.keys.specs.Values.{RuleRead, KeyMade, FormRead, KeyRead, prefix_of, key_of};
 
-use octets::{Packed, lay, number_of};
 use decline::{Decline, Fault};
+use octets::{Packed, lay, number_of};
 use revision::id_bytes;
 
 // A rule in plain numbers: a prefix of 0 to 16 bytes.

@@ -12,7 +12,7 @@ use Rattle.law.specs.Runs.{Open, Slot, idle, running, user, copier, told, tolds,
 use Rattle.revision.proofs.Places.{Below}
 use Rattle.peer.proofs.Waiting.{shift_stage, shift_after, stage_none, stage_longer}
 use Rattle.peer.proofs.Calls.{Ends}
-use Rattle.law.proofs.Sites.{Site, site, now, Possible, both, Had, wait, accept, accepts, Live}
+use Rattle.law.proofs.Sites.{Site, site, now, both, Had, accept, accepts, Live}
 use Rattle.law.proofs.Sound.{Histories, PathGood, Sound}
 use Rattle.law.proofs.Invariant.{DocumentsStage, Conditions, ReplicationInvariant, Noted, Invariant, Quiet, swap, quiet_refl, inv_quiet, Drop, inv_drop}
 use Rattle.peer.specs.Peers.{Peer, entry, current, Moved, Failed, changes, Reply}

@@ -11,7 +11,7 @@ use Rattle.checkpoint.specs.Logs.{Note, enter}
 use Rattle.peer.specs.Records.{put, Record, blank, no_documents, no_trees, no_entries, Row}
 use Rattle.peer.specs.Peers.{Peer, path, entry, current, wait, Moved, Committed, writes, answered}
 use Rattle.peer.specs.Functions.{PathWrite, fine, Room, LogWrite, path_write}
-use Rattle.law.specs.Replications.{ready, copied, secured, Replication, done, opened, turned, in_phase, entry_of, Live, Through}
+use Rattle.law.specs.Replications.{ready, secured, Replication, done, opened, turned, in_phase, entry_of, Live, Through}
 use Rattle.law.specs.Runs.{Open, idle, running, World, sides, Grew, copier, tolds, assign, renew, opening, Run, new, next, call, of, StepOf, start, turn, secure, recording, StartStep, here, then}
 use Rattle.law.specs.Laws.{Agreeing}
 use Rattle.law.specs.Happens.{Happens}

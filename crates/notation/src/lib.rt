@@ -7,8 +7,8 @@ ghost use Rattle.notation.specs.Text.{numeral, dash, parse, stripped, digits_in}
 ghost use Rattle.revision.specs.Ids.{good_generation};
 ghost use Rattle.notation.specs.Outcomes.{Reads, Writes, Wrote};
 
-use octets::place_of;
 use decline::{Decline, Fault};
+use octets::place_of;
 use revision::Revision;
 
 // The length of the longest text: 3 decimal digits, a dash and 16 hexadecimal digits.

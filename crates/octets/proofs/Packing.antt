@@ -1,7 +1,7 @@
 -- Packed bytes read back.
-use Rattle.std.proofs.Common.{◌≡◌, ℕ, ◌+◌, ◌-◌, ◌^◌, ◌<◌, ◌≤◌, min, Bool, true, false, List, [], ◌∷◌, ◌++◌, length, get_or, take, drop, replicate, MatchBool, sym, refl, ap, ◌∙◌, subst, ⊎_elim, arith, lit<, lit≤, length-append}
+use Rattle.std.proofs.Common.{◌≡◌, ℕ, ◌+◌, ◌-◌, ◌^◌, ◌<◌, ◌≤◌, min, Bool, true, false, List, [], ◌++◌, length, get_or, take, drop, replicate, MatchBool, sym, refl, ap, ◌∙◌, subst, ⊎_elim, arith, lit<, length-append}
 use borrow.Rule.Slice.PartMut.{put_mid}
-use Rattle.std.proofs.lemmas.List.{take-append-drop, take-take, take_at, drop_at, take-append-le, append-nil, length-take-le, length-take, length-drop, length-replicate, drop_all, take_all, drop-replicate, replicate-append-replicate, append_assoc, get_or-take, get_or-drop, get_or_past, get_or_append_left, get_or-append_right, get_or-replicate}
+use Rattle.std.proofs.lemmas.List.{take-append-drop, take-take, take_at, drop_at, append-nil, length-take-le, length-take, length-drop, length-replicate, drop_all, take_all, drop-replicate, replicate-append-replicate, append_assoc, get_or-take, get_or-drop, get_or_past, get_or_append_left, get_or-append_right, get_or-replicate}
 use Rattle.std.proofs.lemmas.Bool.{cases_lt}
 use Rattle.std.proofs.lemmas.Int.Digits.{number_lt}
 use Rattle.std.proofs.ByRecursion.{All-from_get_or}

@@ -1,10 +1,10 @@
 -- Numbers and their bytes: each reads back as the other.
-use Rattle.std.proofs.Common.{◌≡◌, ℕ, zero, suc, ◌+◌, ◌-◌, ◌*◌, ◌/◌, ◌%◌, ◌^◌, ◌<◌, ◌≤◌, List, [], ◌∷◌, ◌++◌, length, get_or, take, drop, sym, refl, ap, ◌∙◌, ⊎_elim, div-lt_iff_lt-mul, pow-suc, add-one, arith, lit<, length-append, get_or-take}
+use Rattle.std.proofs.Common.{◌≡◌, ℕ, zero, suc, ◌+◌, ◌*◌, ◌/◌, ◌%◌, ◌^◌, ◌<◌, ◌≤◌, List, [], ◌∷◌, ◌++◌, length, get_or, take, sym, refl, ap, ◌∙◌, ⊎_elim, div-lt_iff_lt-mul, pow-suc, add-one, arith, lit<, get_or-take}
 use native.Mathlib.Nat.{pow-zero, pow-succ', pow-le-pow_right, div-div-eq-div-mul}
 use Rattle.std.proofs.lemmas.Int.Digits.{number_push}
 use Rattle.std.proofs.lemmas.Bool.{cases_lt}
 use Rattle.std.proofs.lemmas.Nat.{div-add-mod', div-mul-add, mod-mul-add}
-use Rattle.std.proofs.lemmas.List.{take_more, take_all, length_push, nil_from_length, length-take-le, get_or_past, take_at, drop_at}
+use Rattle.std.proofs.lemmas.List.{take_more, take_all, length_push, nil_from_length, length-take-le, get_or_past}
 use Rattle.std.specs.List.{AllByRecursion as All}
 use Rattle.octets.specs.BigEndian.{number, in_base, in_bytes, eights, in_eights}
 use Rattle.std.specs.Int.Digits

@@ -2,7 +2,7 @@
 use Rattle.std.proofs.Common.{◌≡◌, ℕ, Bool, true, false, cond, [], ◌∷◌, None, Option, sym, refl, ap, ◌∙◌, subst, subst₂, arith}
 use Rattle.order.proofs.Lists.{same_self}
 use Rattle.revision.specs.Trees.{Tree}
-use Rattle.revision.specs.Paths.{Path, Contradicted, written, Fares, answers, contradicted, known, added}
+use Rattle.revision.specs.Paths.{Path, Contradicted, written, Fares, answers, known, added}
 use Rattle.peer.specs.Records.{Record, Documents, put}
 use Rattle.peer.specs.Peers.{Peer, path, current, tree_of, changes, wait, accept, Effect, answered}
 use Rattle.peer.specs.Functions.{PathWrite, PathVerdict, full, fine}

@@ -1,5 +1,5 @@
 -- A write to a partition that was made of device x, and gives back device y, is one to the part of those devices.
-use Rattle.std.proofs.Common.{◌≡◌, ℕ, List, Result, sym, ap, ◌∙◌, subst, subst₂}
+use Rattle.std.proofs.Common.{◌≡◌, ℕ, List, Result, sym, ap, ◌∙◌, subst₂}
 use Rattle.decline.specs.declared.BlockFault.{BlockFault}
 use Rattle.block.specs.declared.part.Partition.{Partition}
 use Rattle.block.specs.Disk.{Disk, Writes}

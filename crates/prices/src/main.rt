@@ -5,11 +5,11 @@
 ghost use Rattle.std.specs.Prelude.{◌≡◌, ◌≤◌, length, Decides};
 ghost use Rattle.prices.specs.Lines.{front, behind, MarkField, line_read, IsFor, SaysSame, Found, Judged};
 
-use octets::place_of;
 use decline::{Decline, Fault};
 use examples::examples_hold;
 use law::{replication_happens, replication_laws_hold};
 use notation::{LONGEST, read, write};
+use octets::place_of;
 use revision::{DocumentId, Head, Mark, Revision, conflicts, winner};
 use std::alloc::{AllocError, Global};
 use std::io::{Read, Write};

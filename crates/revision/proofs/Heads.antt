@@ -1,8 +1,8 @@
 -- A tree has at most one list of its heads in order.
-use Rattle.std.proofs.Common.{◌≡◌, ◌⊎◌, List, [], ◌∷◌, sym, refl, ap, ◌∙◌, subst, inl, inr, arith}
+use Rattle.std.proofs.Common.{◌≡◌, ◌⊎◌, List, [], ◌∷◌, sym, refl, ◌∙◌, subst, inl, inr, arith}
 use Rattle.order.specs.Lists.{Mem}
 use Rattle.revision.specs.Trees.{Tree}
-use Rattle.revision.specs.Heads.{Head, Above, Descending, Heads, winner, conflicts}
+use Rattle.revision.specs.Heads.{Head, Above, Descending, Heads}
 
 pub above_not : (h : Head) → Above h h → ⊥
 above_not h (inl e) = omega arith

@@ -9,8 +9,8 @@ ghost use Rattle.revision.specs.Laws.{TreeLaws};
 ghost use Rattle.revision.specs.Values.{IdRead, IdLaid, RevisionMade, mark_number, MarkRead, head_mark, Lower, Winner, Conflicts};
 ghost use Rattle.std.proofs.Common.{rules};
 
-use octets::{Packed, lay};
 use decline::{Decline, Fault};
+use octets::{Packed, lay};
 use order::{Ranked, arrange, greatest};
 use std::cmp::Ordering;
 

@@ -8,7 +8,6 @@ use Rattle.revision.specs.declared.Revision.{Revision}
 use Rattle.revision.specs.declared.Mark.{Mark}
 use Rattle.revision.specs.declared.Mark.TheVariants.{Live, Deleted}
 use Rattle.revision.specs.Ids.{Id}
-use Rattle.revision.specs.Trees as Trees
 use Rattle.revision.specs.Trees.{good_content, content_at}
 use Rattle.revision.specs.Values.{IdRead, RevisionMade, mark_number}
 use Rattle.peer.specs.declared.Body.{Body}

@@ -1,7 +1,6 @@
 -- A tree of the tables has at most as many heads as there are slots.
 use Rattle.std.proofs.Common.{◌≡◌, ℕ, suc, ◌<◌, ◌≤◌, true, List, [], ◌∷◌, length, get_or, Some, None, Option, sym, refl, ap, ◌∙◌, subst, inl, inr, arith}
 use Rattle.order.specs.Lists.{Mem}
-use Rattle.revision.specs.Trees as Trees
 use Rattle.revision.specs.Trees.{content_at}
 use Rattle.revision.specs.Heads.{Head, Above, Descending, Heads}
 use Rattle.tables.specs.declared.HeldRevision.{HeldRevision}

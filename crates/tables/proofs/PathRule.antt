@@ -1,9 +1,9 @@
 -- A path that is written to a tree: when it is contradicted, when it changes something, and what it makes of the tree.
-use Rattle.std.proofs.Common.{◌≡◌, ℕ, zero, suc, ◌-◌, ◌<◌, ◌≤◌, Bool, true, false, cond, not, eqb, ◌⊎◌, List, [], ◌∷◌, length, get_or, drop, Some, sym, refl, ap, ◌∙◌, subst, inl, inr, ⊎_elim, arith}
+use Rattle.std.proofs.Common.{◌≡◌, ℕ, zero, suc, ◌-◌, ◌<◌, ◌≤◌, Bool, true, false, cond, eqb, ◌⊎◌, List, [], ◌∷◌, length, get_or, drop, Some, sym, refl, ap, ◌∙◌, subst, inl, inr, ⊎_elim, arith}
 use Rattle.std.proofs.lemmas.Bool.{eq-eqb, ne_eqb, cases_eq, cases_lt}
 use Rattle.order.specs.Lists.{final}
 use Rattle.revision.specs.Trees.{Content, Node, absent, inner, head, Tree, held, parent, level, Compatible}
-use Rattle.revision.specs.Paths.{Path, path_tree, last_node, touched, written, at_last, changes, Contradicted}
+use Rattle.revision.specs.Paths.{Path, path_tree, last_node, touched, at_last, Contradicted}
 use Rattle.tables.specs.declared.Standing.TheVariants.{Missing, Agrees, Against}
 use Rattle.tables.specs.Paths.{stands, standing, Clash}
 use Rattle.tables.proofs.PathPlaces.{before, chain_at, chain_past, final_at, behind_last, behind_more, before_at}

@@ -1,7 +1,7 @@
 -- What a path adds to a tree: how many revisions, and whether its head takes the place of another.
 use Rattle.std.proofs.Common.{◌≡◌, ℕ, suc, ◌+◌, ◌-◌, ◌<◌, ◌≤◌, Bool, true, false, cond, List, [], ◌∷◌, length, get_or, is_some, Some, None, Option, sym, refl, ap, ◌∙◌, ⊎_elim, arith}
 use Rattle.std.proofs.lemmas.Bool.{cases_eq, cases_lt}
-use Rattle.revision.specs.Trees.{Node, absent, head, Tree, held, Closed}
+use Rattle.revision.specs.Trees.{Node, absent, Tree, held, Closed}
 use Rattle.revision.specs.Paths.{Path}
 use Rattle.tables.specs.declared.HeldRevision.{HeldRevision}
 use Rattle.tables.specs.declared.Content.{Content}

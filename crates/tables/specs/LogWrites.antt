@@ -6,7 +6,6 @@ use Rattle.checkpoint.specs.Logs.{entered}
 use Rattle.checkpoint.specs.Values.{pairs, entries_of}
 use Rattle.tables.specs.declared.KeyedLog.{KeyedLog}
 use Rattle.tables.specs.declared.Tables.{Tables}
-use Rattle.tables.specs.Searches.{place}
 
 -- only the logs have changed, and there is as much memory for them as before
 pub record OnlyLogs (t u : Tables) : Type 0 where

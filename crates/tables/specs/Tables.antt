@@ -1,5 +1,5 @@
 -- What the tables say in the words of the model.
-use Rattle.std.specs.Prelude.{ℕ, Bool, ◌&&◌, List, [], length, take, Some, None, vec_items, Option, ◌==◌, slice_index_or}
+use Rattle.std.specs.Prelude.{ℕ, Bool, ◌&&◌, List, [], take, Some, None, vec_items, Option, ◌==◌, slice_index_or}
 use Rattle.octets.specs.Packed.{unpacked}
 use Rattle.order.specs.Lists.{same}
 use Rattle.revision.specs.declared.Mark.TheVariants.{Live}

@@ -25,10 +25,10 @@ ghost use Rattle.tables.specs.contracts.Tables.{the_row};
 ghost use Rattle.tables.specs.contracts.HeldRevision.{the_row as revision-row};
 ghost use Rattle.tables.specs.Reads.{Answered, Reads, Stands, NextOf, Earlier, PathLength, PathReplied, Writes};
 
-use octets::{Packed, lay, number_of};
 use checkpoint::{Entry, Log};
 use decline::{Decline, Fault};
 use keys::Key;
+use octets::{Packed, lay, number_of};
 use peer::Row;
 use revision::{DocumentId, Mark, Revision};
 use std::alloc::{AllocError, Global};

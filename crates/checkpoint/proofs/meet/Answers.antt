@@ -1,4 +1,4 @@
-use Rattle.std.proofs.Common.{◌≡◌, ℕ, max, List, sym, ap, ◌∙◌, subst}
+use Rattle.std.proofs.Common.{ℕ, max, List, sym, ap, ◌∙◌, subst}
 use Rattle.std.proofs.lemmas.List.{map_more, take_all}
 use Rattle.checkpoint.specs.Logs.{Entries}
 use Rattle.checkpoint.specs.declared.Entry.{Entry}

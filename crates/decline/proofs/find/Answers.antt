@@ -1,8 +1,8 @@
-use Rattle.std.proofs.Common.{◌≡◌, ℕ, ◌+◌, ◌<◌, ◌≤◌, cond, eqb, List, [], ◌∷◌, map, length, get_or, drop, Some, None, Option, sym, refl, ap, ◌∙◌}
+use Rattle.std.proofs.Common.{◌≡◌, ℕ, ◌+◌, ◌<◌, ◌≤◌, cond, eqb, List, map, length, get_or, drop, Some, None, sym, ap, ◌∙◌}
 use Rattle.std.proofs.lemmas.List.{drop_more, drop_all}
 use Rattle.std.proofs.lemmas.Bool.{eq-eqb, ne_eqb, cond-true, cond-false}
 use Rattle.decline.specs.declared.Entry.{Entry}
-use Rattle.decline.specs.Table.{Named, plain, found}
+use Rattle.decline.specs.Table.{plain, found}
 use Rattle.decline.proofs.find.Goals as goal
 
 module _ (t : List Entry) (n i : ℕ) (d : Entry) (h : i < length t) where

@@ -1,4 +1,3 @@
-use Rattle.std.proofs.Common.{◌≡◌, ◌<◌, length, get_or, refl, rules}
 use Rattle.std.proofs.lemmas.List.{nil_from_length, get_or_default}
 use Rattle.order.proofs.Lists.{mem_get_d, greatest_member}
 use Rattle.revision.specs.Values.{Lower}

@@ -1,4 +1,4 @@
-use Rattle.std.proofs.Common.{List, ap, ◌∙◌, arith}
+use Rattle.std.proofs.Common.{List, ap, ◌∙◌}
 use Rattle.order.specs.Lists.{nth}
 use Rattle.order.proofs.Lists.{nth_get_d, nth_past}
 use Rattle.checkpoint.specs.declared.Entry.{Entry}

@@ -1,4 +1,4 @@
-use Rattle.std.proofs.Common.{◌≡◌, List, [], ◌∷◌, ◌++◌, length, sym, refl, ap, ◌∙◌}
+use Rattle.std.proofs.Common.{◌≡◌, ◌++◌, length, sym, refl, ap, ◌∙◌}
 use Rattle.octets.specs.BigEndian.{in_bytes}
 use Rattle.octets.proofs.Widths.{eight_bytes}
 use Rattle.octets.proofs.Packing.{halves}
