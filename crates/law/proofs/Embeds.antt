@@ -1,4 +1,4 @@
--- What the contracts promise is a step of a run: each call, wake, set_back and step of a replication, from any world in which it can be taken. The records that
+-- What the contracts promise is a step of a run: each call, wake, set-back and step of a replication, from any world in which it can be taken. The records that
 -- a peer has had standing may grow by any that could stand on the way, so a run can remember whatever stood.
 use Rattle.std.proofs.Common.{◌≡◌, ℕ, Bool, true, false, not, ◌⊎◌, List, ◌∷◌, sym, refl, subst, inl, inr}
 use Rattle.order.specs.Lists.{Mem, Each}

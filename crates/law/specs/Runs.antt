@@ -174,7 +174,7 @@ pub record WakeStep (w v : World) : Type 0 where
     stamps = spent (is_answered reply) stamp w.stamps;
   }
 
--- A set_back gives a peer a record that it had standing earlier (trees and logs together), and wakes it.
+-- A set-back gives a peer a record that it had standing earlier (trees and logs together), and wakes it.
 pub record SetBack (w v : World) : Type 0 where
   pub side : Bool
   pub stamp : ℕ

@@ -55,9 +55,9 @@ pub record ReadLine (cs : List ℕ) (p : Price) : Type 0 where
   pub mark : mark_field (mark_part cs) ≡ Some p.head.mark
   pub body : p.body.now ≡ body_part cs
 
-abbrev pub line_read : List ℕ → Result Price Fault → Type 0
-line_read cs (Ok p) = (first_failed (line_tests cs) ≡ None) × ReadLine cs p
-line_read cs (Err e) = (n : ℕ) × (first_failed (line_tests cs) ≡ Some n) × (e ≡ bare n)
+abbrev pub LineRead : List ℕ → Result Price Fault → Type 0
+LineRead cs (Ok p) = (first_failed (line_tests cs) ≡ None) × ReadLine cs p
+LineRead cs (Err e) = (n : ℕ) × (first_failed (line_tests cs) ≡ Some n) × (e ≡ bare n)
 
 -- a price for this revision of this product
 abbrev pub IsFor : DocumentId → Revision → Price → Type 0

@@ -3,7 +3,7 @@
 #![tactic(auto)]
 
 ghost use Rattle.std.specs.Prelude.{◌≡◌, ◌≤◌, length, Decides};
-ghost use Rattle.prices.specs.Lines.{front, behind, MarkField, line_read, IsFor, SaysSame, Found, Judged};
+ghost use Rattle.prices.specs.Lines.{front, behind, MarkField, LineRead, IsFor, SaysSame, Found, Judged};
 
 use decline::{Decline, Fault};
 use examples::examples_hold;
@@ -51,7 +51,7 @@ fn mark_in(text: &[u8]) -> Result<Mark, Fault>
 
 // Reads a line: declined 11, 12, 13 or 14 for the first part that is bad.
 fn price_in(line: &[u8]) -> Result<Price<'_>, Fault>
-    ensures { line_read line.now result }
+    ensures { LineRead line.now result }
 {
     let (id, rest) = cut(line, b' ');
     let product = match DocumentId::read(id) {

@@ -22,7 +22,7 @@ ghost use Rattle.tables.specs.Paths.{tag_at, standing, Clash, Newest, stripped, 
 ghost use Rattle.std.specs.Borrow.{sem, follows};
 ghost use Rattle.std.specs.Vec.{with_item};
 ghost use Rattle.tables.specs.contracts.Tables.{the_row};
-ghost use Rattle.tables.specs.contracts.HeldRevision.{the_row as revision-row};
+ghost use Rattle.tables.specs.contracts.HeldRevision.{the_row as revision_row};
 ghost use Rattle.tables.specs.Reads.{Answered, Reads, Stands, NextOf, Earlier, PathLength, PathReplied, Writes};
 
 use checkpoint::{Entry, Log};
@@ -346,7 +346,7 @@ impl Tables {
     // An entry of the revisions, lent to be changed.
     fn revision_mut(&mut self, i: usize) -> &mut HeldRevision
         requires { i < vec_len self.old.revisions }
-        ensures* follows { sem 𝓛 (follows the_row revision-row self.entry.ghost_name result.ghost_name (λ w. record { documents = self.old.documents; revisions = with_item self.old.revisions i w; contents = self.old.contents; logs = self.old.logs; highest = self.old.highest })) }
+        ensures* follows { sem 𝓛 (follows the_row revision_row self.entry.ghost_name result.ghost_name (λ w. record { documents = self.old.documents; revisions = with_item self.old.revisions i w; contents = self.old.contents; logs = self.old.logs; highest = self.old.highest })) }
         ensures value { result.now ≡ slice_index_or self.old.revisions.items i result.now }
     {
         &mut self.revisions[i]

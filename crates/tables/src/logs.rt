@@ -28,7 +28,7 @@ fn entered(log: Log, stamp: u64, position: u32) -> Log
 impl Tables {
     // Enters stamp and position into the log at a place.
     fn enter_at(&mut self, at: usize, stamp: u64, position: u32)
-        requires { (at < length self.old.logs.items) × ((stamp ≢ 0)) }
+        requires { (at < length self.old.logs.items) × (stamp ≢ 0) }
         ensures { EnteredAt self.old self.new at stamp position }
     {
         let old = self.logs[at];
@@ -38,7 +38,7 @@ impl Tables {
 
     // Enters stamp and position into a new log.
     fn enter_new(&mut self, key: Key, stamp: u64, position: u32)
-        requires { (vec_len self.old.logs < vec_capacity self.old.logs) × ((stamp ≢ 0)) }
+        requires { (vec_len self.old.logs < vec_capacity self.old.logs) × (stamp ≢ 0) }
         ensures { EnteredNew self.old self.new (key_of key) stamp position }
     {
         let log = entered(Log::new(), stamp, position);

@@ -1,4 +1,4 @@
-use Rattle.std.proofs.Common.{ℕ, max, List, sym, ap, ◌∙◌, subst}
+use Rattle.std.proofs.Common.{ℕ, List, sym, ap, subst}
 use Rattle.std.proofs.lemmas.List.{map_more, take_all}
 use Rattle.checkpoint.specs.Logs.{Entries}
 use Rattle.checkpoint.specs.declared.Entry.{Entry}
@@ -14,7 +14,7 @@ loop-f-preserved c =
     let s = sym (map_more pair c.args.log.now i (record { stamp = 0; position = 0 }) c.loop-f-test.true) in
     elim c.if-f-e.branch [
       | then-f-e w ↦ subst (λ (l : Entries ℕ). Met e l c.if-f-e.best.at c.if-f-e.there) s
-          (met_same e _ _ _ _ c.loop-f.invariant w.if-f-e.true _ (ap (λ p. p.at) w.best-is ∙ (w.later-best.ensures ∙ ap (max c.loop-f.best.at) w.min.ensures)) _ w.there-is)
+          (met_same e _ _ _ _ c.loop-f.invariant w.if-f-e.true _ (cc) _ w.there-is)
       | else-f-e w ↦ subst (λ (l : Entries ℕ). Met e l c.if-f-e.best.at c.if-f-e.there) s
           (met_other e _ _ _ _ c.loop-f.invariant w.if-f-e.false _ (ap (λ p. p.at) w.best-is) _ w.there-is)
     ]
