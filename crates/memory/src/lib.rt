@@ -32,10 +32,10 @@ impl Memory {
         ensures { Made number stamp result }
     {
         if stamp == 0 {
-            return Err(Unmade::Declined(Fault::new(Decline::Stamp)));
+            return Err(Unmade::Declined(Fault::from(Decline::Stamp)));
         }
         if number == 0 {
-            return Err(Unmade::Declined(Fault::new(Decline::Number)));
+            return Err(Unmade::Declined(Fault::from(Decline::Number)));
         }
         match Tables::new(heap) {
             Ok(tables) => Ok(Memory {
@@ -113,7 +113,7 @@ impl Peer for Memory {
 
     fn wake(&mut self, stamp: u64) -> Result<(), Fault> {
         if stamp == 0 {
-            return Err(Fault::new(Decline::Stamp));
+            return Err(Fault::from(Decline::Stamp));
         }
         self.stamp = stamp;
         Ok(())

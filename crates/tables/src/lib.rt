@@ -223,14 +223,14 @@ fn path_length(generation: u8, tags: &[u8]) -> Result<usize, Fault>
     ensures { PathLength generation tags.now result }
 {
     if generation == 0 {
-        return Err(Fault::new(Decline::Revision));
+        return Err(Fault::from(Decline::Revision));
     }
     if generation > 200 {
-        return Err(Fault::new(Decline::Revision));
+        return Err(Fault::from(Decline::Revision));
     }
     let n = generation as usize;
     if tags.len() != 8 * n {
-        return Err(Fault::new(Decline::Revision));
+        return Err(Fault::from(Decline::Revision));
     }
     Ok(n)
 }
@@ -538,7 +538,7 @@ impl Tables {
         ensures { Wrote self.old id document (tag_at tags.now) n (content (mark_number mark) body.now) result self.new }
     {
         let Some(k) = self.newest_held(document as u8, tags, n) else {
-            return Err(Fault::new(Decline::Contradiction));
+            return Err(Fault::from(Decline::Contradiction));
         };
         let at = self.entry_at(document as u8, tags, k);
         let slot = self.slot_at(at);
@@ -546,10 +546,10 @@ impl Tables {
             if self.keeps(slot, mark, body) {
                 return Ok(0);
             }
-            return Err(Fault::new(Decline::Contradiction));
+            return Err(Fault::from(Decline::Contradiction));
         }
         if !self.has_room(document, n - k, slot) {
-            return Err(Fault::new(Decline::Full));
+            return Err(Fault::from(Decline::Full));
         }
         self.extend(id, document, tags, k, n, at, slot, Content::new(mark, body));
         Ok(1)
@@ -604,7 +604,7 @@ impl Tables {
         let n = path_length(generation, tags)?;
         let mark = Mark::read(mark)?;
         if body.len() > 96 {
-            return Err(Fault::new(Decline::Body));
+            return Err(Fault::from(Decline::Body));
         }
         self.write_good(id, tags, n, mark, body)
     }
