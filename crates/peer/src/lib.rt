@@ -93,11 +93,11 @@ pub trait Peer {
         ensures keeps { kept self.new }
         ensures calls { Replies (Function.log_entry key.now i) (perhaps pair) (state self.old) result (state self.new) };
 
-    // Writes a stamp and a position to the log of a key.
-    fn log_write(&mut self, key: &[u8], stamp: u64, position: u32) -> Result<(), Fault>
+    // Writes an entry, a stamp and a position, to the log of a key.
+    fn log_write(&mut self, key: &[u8], entry: Entry) -> Result<(), Fault>
         requires { kept self.old }
         ensures keeps { kept self.new }
-        ensures calls { Replies (Function.log_write key.now stamp position) plain (state self.old) result (state self.new) };
+        ensures calls { Replies (Function.log_write key.now entry.stamp entry.position) plain (state self.old) result (state self.new) };
 
     // Moves all waiting writes into the standing record.
     fn commit(&mut self) -> Result<(), Fault>
@@ -199,8 +199,8 @@ impl<P: Peer> Peer for Guard<P> {
         self.peer.log_entry(key, i)
     }
 
-    fn log_write(&mut self, key: &[u8], stamp: u64, position: u32) -> Result<(), Fault> {
-        self.peer.log_write(key, stamp, position)
+    fn log_write(&mut self, key: &[u8], entry: Entry) -> Result<(), Fault> {
+        self.peer.log_write(key, entry)
     }
 
     fn commit(&mut self) -> Result<(), Fault> {
