@@ -1,6 +1,5 @@
-use Rattle.std.proofs.Common.{◌≡◌, Some, None, Option, true, ap, refl}
+use Rattle.std.proofs.Common.{rules, ◌≡◌, replicate, Some, None, Option, vec_items, ap}
 use Rattle.std.specs.List.{each_same}
-use Rattle.block.specs.Disk.{disk_of}
 use Rattle.block.proofs.array.BlockArray.new.Goals as goal
 
 -- what resembles Some x only if it has a part that is x, is Some x
@@ -10,5 +9,6 @@ some_only P x none same (Some y) p = ap Some (same y p)
 
 pub returns : goal.returns
 returns c =
-    let zeros = c.in_ok-vec.ensures.items_if_clones_equal (some_only _ _ (λ k. k) (λ ys k. each_same _ _ k.whole)) in
-    (ap (λ xs. disk_of xs true) zeros, refl)
+    let zeros : vec_items c.in_ok-vec.field-0 ≡ replicate c.args.count (Some (replicate 512 0)) =
+    c.in_ok-vec.ensures.items_if_clones_equal (some_only _ _ (λ k. k) (λ ys k. each_same _ _ k.whole)) in
+    search rules
