@@ -65,6 +65,7 @@ fn admit(count: u32, n: u32, memory: &[u8]) -> Result<(), BlockFault>
 }
 
 // Writes two blocks in order, the second only if the first was accepted.
+// Kept: a block's number and its bytes are two parameters here as in `write`: a struct of both would be made at each call only to be taken apart.
 pub fn write_two<D: Device>(
     device: &mut D,
     m: u32,
