@@ -1,4 +1,2 @@
-pub mod Zeros
 pub mod PlanRuns
-pub mod OneBlock
-pub mod PartCalls
+pub mod Parts

@@ -1,6 +1,5 @@
 -- A plan over a run of writes strikes the one that it names, and no other.
-use Rattle.std.proofs.Common.{◌≡◌, ℕ, zero, suc, ◌-◌, ◌<◌, ◌≤◌, cond, eqb, Some, None, Option, refl, ap, ◌∙◌, ⊎_elim, arith}
-use Rattle.std.proofs.lemmas.Bool.{cases_lt, eq-eqb, ne_eqb, cond-true, cond-false}
+use Rattle.std.proofs.Common.{◌≡◌, ℕ, zero, suc, ◌-◌, cond, eqb, leb, Some, None, Option, refl, ap, ◌∙◌, arith}
 use Rattle.std.proofs.lemmas.Bool.Decides.{nat_tests}
 use Rattle.block.specs.declared.array.Plan.{Plan}
 use Rattle.block.specs.declared.array.Outcome.{Outcome}
@@ -24,32 +23,12 @@ none_left : (k : ℕ) → plan_in k None ≡ None
 none_left zero = refl
 none_left (suc k) = ap plan_after (none_left k)
 
-module _ (w : ℕ) (o : Outcome) where
-  -- up to the write that is named the plan counts down
-  counts_down : (k : ℕ) → k ≤ w → plan_in k (Some (plan_of w o)) ≡ Some (plan_of (w - k) o)
-  counts_down zero h = ap (λ (m : ℕ). Some (plan_of m o)) (omega arith)
-  counts_down (suc k) h =
-      ap plan_after (counts_down k (omega arith))
-      ∙ (cond-false (eqb (w - k) 0) None (Some (plan_of (w - k - 1) o)) (ne_eqb (w - k) 0 (λ e. omega arith))
-      ∙ ap (λ (m : ℕ). Some (plan_of m o)) (omega arith))
-
-  -- behind it nothing is left
-  used_up : (k : ℕ) → w < k → plan_in k (Some (plan_of w o)) ≡ None
-  used_up zero h = absurd (omega arith)
-  used_up (suc k) h = ⊎_elim
-      (λ (l : w < k). ap plan_after (used_up k l))
-      (λ (l : k ≤ w).
-      ap plan_after (counts_down k l)
-      ∙ cond-true (eqb (w - k) 0) None (Some (plan_of (w - k - 1) o)) (eq-eqb (w - k) 0 (omega arith)))
-      (cases_lt w k)
-
-  named_once : (k : ℕ) → struck_by (plan_in k (Some (plan_of w o))) ≡ named_by (Some (plan_of w o)) k
-  named_once k = ⊎_elim
-      (λ (l : w < k). ap struck_by (used_up k l) ∙ grind (arith, nat_tests))
-      (λ (l : k ≤ w). ap struck_by (counts_down k l) ∙ grind (arith, nat_tests))
-      (cases_lt w k)
+-- up to the write that is named the plan counts down, and behind it nothing is left
+left : (w : ℕ) (o : Outcome) (k : ℕ) → plan_in k (Some (plan_of w o)) ≡ cond (leb k w) (Some (plan_of (w - k) o)) None
+left w o zero = grind (arith, nat_tests)
+left w o (suc k) = ap plan_after (left w o k) ∙ grind (arith, nat_tests)
 
 -- write k of a run is struck if the plan names it, and no other is
 pub strikes_named : (p : Option Plan) (k : ℕ) → struck_by (plan_in k p) ≡ named_by p k
 strikes_named None k = ap struck_by (none_left k)
-strikes_named (Some p) k = named_once p.write p.outcome k
+strikes_named (Some p) k = ap struck_by (left p.write p.outcome k) ∙ grind (arith, nat_tests)

@@ -1,5 +1,5 @@
 -- The array of blocks: what it is as a disk, and how it fails by plan.
-use Rattle.std.specs.Prelude.{◌≡◌, ℕ, ◌-◌, ◌^◌, ◌<◌, true, false, cond, ◌⊎◌, List, replicate, Some, None, Ok, Err, vec_items, vec_len, vec_capacity, Option, Result, ◌==◌, slice_set}
+use Rattle.std.specs.Prelude.{◌≡◌, ℕ, ◌-◌, true, false, cond, ◌⊎◌, List, replicate, Some, None, Ok, Err, vec_items, vec_capacity, Option, Result, ◌==◌, slice_set}
 use Rattle.decline.specs.declared.BlockFault.{BlockFault}
 use Rattle.block.specs.declared.array.BlockArray.{BlockArray}
 use Rattle.block.specs.declared.array.Outcome.{Outcome}
@@ -14,10 +14,6 @@ array_disk a = disk_of (vec_items a.blocks) a.on
 -- an array's memory is as large as it was
 abbrev pub SameMemory : BlockArray → BlockArray → Type 0
 SameMemory a b = vec_capacity b.blocks ≡ vec_capacity a.blocks
-
--- block numbers fit 32 bits
-abbrev pub Numbered : BlockArray → Type 0
-Numbered a = vec_len a.blocks < 2 ^ 32
 
 -- so many readable blocks of zeros, on
 abbrev pub zeroed : ℕ → Disk

@@ -1,9 +1,9 @@
 // Blocks in memory that fail by plan.
-ghost use Rattle.std.specs.Prelude.{◌≡◌, ◌<◌, true, length, replicate, IfOk, Some, vec_len, slice_set};
-ghost use Rattle.block.specs.Plans.{array_disk, Numbered, SameMemory, zeroed, struck_by, plan_after, failed, ByPlan};
-ghost use Rattle.block.specs.Disk.{disk_of, Reads, Writes};
+ghost use Rattle.std.specs.Prelude.{◌≡◌, ◌<◌, ◌^◌, ◌⊎◌, ⊤, true, false, length, IfOk, MatchResult, Some, vec_len, slice_set};
+ghost use Rattle.block.specs.Disk.{disk_of, Proper, Improper, Reads, Writes};
+ghost use Rattle.decline.specs.Faults.{block_fault};
 
-use crate::Device;
+use crate::{Device, admit};
 use decline::{BlockFault, Decline};
 use std::alloc::{AllocError, Global};
 
@@ -23,44 +23,41 @@ pub struct Plan {
 }
 
 // Blocks in memory, got once at the making, each readable or not. Power fails only at the write that the plan names,
-// which is counted down from the making on; behind it no plan is left.
+// which is counted down from the making on; behind it no plan is left. Block numbers fit 32 bits.
 #[derive(Drop)]
 pub struct BlockArray {
     blocks: Vec<Option<[u8; 512]>>,
+    // Kept: on and off carry no value and go by no other field, so an enum would only respell the bool.
     on: bool,
     plan: Option<Plan>,
-}
-
-// So many readable blocks of zeros, in memory that is got once.
-fn zero_blocks(heap: Global, count: u32) -> Result<Vec<Option<[u8; 512]>>, AllocError>
-    ensures { IfOk result (λ v. (v.items ≡ replicate count (Some (replicate 512 0))) × (vec_len v ≡ count)) }
-{
-    let mut blocks = Vec::with_capacity(heap, count as usize)?;
-    for _i in 0..count {
-        blocks.push_reserved(Some([0; 512]));
-    }
-    Ok(blocks)
-}
-
-// Fills memory of one block.
-fn fill(into: &mut [u8], bytes: &[u8; 512])
-    requires { length into.old ≡ 512 }
-    ensures { into.new ≡ bytes.now }
-{
-    into.copy_from_slice(bytes);
+    pub ghost numbered: { vec_len blocks < 2 ^ 32 },
 }
 
 impl BlockArray {
+    ghost use Rattle.block.specs.Plans.{array_disk, SameMemory, zeroed, struck_by, plan_after, failed, Reaches};
+
     // So many blocks of zeros, readable and on.
     pub fn new(heap: Global, count: u32, plan: Option<Plan>) -> Result<BlockArray, AllocError>
-        ensures { IfOk result (λ a. (array_disk a ≡ zeroed count) × Numbered a × (a.plan ≡ plan)) }
+        ensures { IfOk result (λ a. (array_disk a ≡ zeroed count) × (a.plan ≡ plan)) }
     {
-        let blocks = zero_blocks(heap, count)?;
         Ok(BlockArray {
-            blocks,
+            blocks: vec![in heap; Some([0; 512]); count as usize]?,
             on: true,
             plan,
         })
+    }
+
+    // Admits a read or a write of block n that reaches the array: its input is in order, and the array is on.
+    fn reach(&self, n: u32, memory: &[u8]) -> Result<(), BlockFault>
+        ensures { MatchResult result
+            (λ _. Reaches (array_disk self.now) n memory.now)
+            (λ f. Improper (array_disk self.now) n memory.now f ⊎ ((f ≡ block_fault 51 n) × Proper (array_disk self.now) n memory.now × (self.now.on ≡ false))) }
+    {
+        admit(self.count(), n, memory)?;
+        if !self.on {
+            return Err(BlockFault::new(Decline::Off, n));
+        }
+        Ok(())
     }
 
     // Takes a write off the plan: its outcome, if power fails at it.
@@ -69,38 +66,32 @@ impl BlockArray {
         ensures plan { self.new.plan ≡ plan_after self.old.plan }
         ensures same { (self.new.blocks ≡ self.old.blocks) × (self.new.on ≡ self.old.on) }
     {
-        let Some(plan) = self.plan else {
-            return None;
-        };
-        if plan.write == 0 {
-            self.plan = None;
-            return Some(plan.outcome);
+        let Plan { write, outcome } = self.plan.take()?;
+        if write == 0 {
+            return Some(outcome);
         }
         self.plan = Some(Plan {
-            write: plan.write - 1,
-            outcome: plan.outcome,
+            write: write - 1,
+            outcome,
         });
         None
     }
 
     // Sets block n to 512 bytes.
+    // Kept: that memory is as large as before ties two states of an array, which no invariant of one value can say.
     fn put(&mut self, n: u32, from: &[u8])
         requires { (n < vec_len self.old.blocks) × (length from.now ≡ 512) }
         ensures blocks { self.new.blocks.items ≡ slice_set self.old.blocks.items n (Some from.now) }
-        ensures len { vec_len self.new.blocks ≡ vec_len self.old.blocks }
         ensures memory { SameMemory self.old self.new }
         ensures same { (self.new.on ≡ self.old.on) × (self.new.plan ≡ self.old.plan) }
     {
-        let mut bytes = [0; 512];
-        bytes.copy_from_slice(from);
-        self.blocks[n as usize] = Some(bytes);
+        self.blocks[n as usize] = from.try_into().ok();
     }
 
     // Power fails at a write to block n, with an outcome.
     fn fail(&mut self, n: u32, from: &[u8], outcome: Outcome)
         requires { (n < vec_len self.old.blocks) × (length from.now ≡ 512) }
         ensures disk { array_disk self.new ≡ failed outcome (array_disk self.old) n from.now }
-        ensures len { vec_len self.new.blocks ≡ vec_len self.old.blocks }
         ensures memory { SameMemory self.old self.new }
         ensures plan { self.new.plan ≡ self.old.plan }
     {
@@ -114,9 +105,11 @@ impl BlockArray {
 }
 
 impl Device for BlockArray {
+    ghost use Rattle.block.specs.Plans.{array_disk, SameMemory, ByPlan};
+
     ghost disk = { array_disk };
 
-    ghost kept = { Numbered };
+    ghost kept = { λ _. ⊤ };
 
     fn count(&self) -> u32 {
         self.blocks.len() as u32
@@ -124,46 +117,22 @@ impl Device for BlockArray {
 
     // A read never fails, and changes nothing.
     fn read(&mut self, n: u32, into: &mut [u8]) -> Result<(), BlockFault>
-        requires { Numbered self.old }
-        ensures keeps { Numbered self.new }
         ensures reads { Reads (array_disk self.old) n into.old into.new (array_disk self.new) result }
         ensures same { self.new ≡ self.old }
     {
-        if into.len() != 512 {
-            return Err(BlockFault::new(Decline::Memory, n));
-        }
-        if n >= self.count() {
-            return Err(BlockFault::new(Decline::Beyond, n));
-        }
-        if !self.on {
-            return Err(BlockFault::new(Decline::Off, n));
-        }
-        match self.blocks[n as usize] {
-            Some(bytes) => {
-                fill(into, &bytes);
-                Ok(())
-            }
-            None => Err(BlockFault::new(Decline::Unreadable, n)),
-        }
+        self.reach(n, into)?;
+        let bytes = self.blocks[n as usize].ok_or(BlockFault::new(Decline::Unreadable, n))?;
+        into.copy_from_slice(&bytes);
+        Ok(())
     }
 
     // A write fails only if the plan names it.
     fn write(&mut self, n: u32, from: &[u8]) -> Result<(), BlockFault>
-        requires { Numbered self.old }
-        ensures keeps { Numbered self.new }
         ensures writes { Writes (array_disk self.old) n from.now (array_disk self.new) result }
         ensures plan { ByPlan self.old.plan self.new.plan (array_disk self.old) n from.now (array_disk self.new) result }
         ensures memory { SameMemory self.old self.new }
     {
-        if from.len() != 512 {
-            return Err(BlockFault::new(Decline::Memory, n));
-        }
-        if n >= self.count() {
-            return Err(BlockFault::new(Decline::Beyond, n));
-        }
-        if !self.on {
-            return Err(BlockFault::new(Decline::Off, n));
-        }
+        self.reach(n, from)?;
         match self.strike() {
             None => {
                 self.put(n, from);
@@ -177,8 +146,6 @@ impl Device for BlockArray {
     }
 
     fn resume(&mut self)
-        requires { Numbered self.old }
-        ensures keeps { Numbered self.new }
         ensures resumes { array_disk self.new ≡ disk_of (array_disk self.old).blocks true }
         ensures plan { self.new.plan ≡ self.old.plan }
         ensures memory { SameMemory self.old self.new }

@@ -1,10 +1,11 @@
 // Block devices: the trait, an array of blocks in memory that fails by plan, and a part of any device.
 #![tactic(auto)]
 
-ghost use Rattle.std.specs.Prelude.{◌≡◌, true, length};
+ghost use Rattle.std.specs.Prelude.{◌≡◌, ◌≢◌, ◌<◌, ◌≤◌, ◌⊎◌, true, length, MatchResult};
 ghost use Rattle.block.specs.Disk.{Disk, disk_of, Reads, Writes, WritesTwo};
+ghost use Rattle.decline.specs.Faults.{block_fault};
 
-use decline::BlockFault;
+use decline::{BlockFault, Decline};
 
 mod array;
 mod part;
@@ -13,11 +14,13 @@ pub use array::{BlockArray, Outcome, Plan};
 pub use part::Partition;
 
 // Blocks of 512 bytes, numbered from 0. Power may fail at any read or write; the device is then off until it is resumed.
+// Kept: memory of another length is declined by number, so it comes as a slice and not as an array of 512 bytes.
 pub trait Device {
     // The blocks, and whether the device is on.
     ghost disk: { Self → Disk };
 
     // The condition that the calls of a type keep.
+    // Kept: by a rule of the project a device's caller owes no condition but this, so each call asks and keeps it.
     ghost kept: { Self → Type 0 };
 
     // How many blocks there are. It answers while the device is off, too.
@@ -44,7 +47,25 @@ pub trait Device {
         ensures resumes { disk self.new ≡ disk_of (disk self.old).blocks true };
 }
 
+// Admits a read or a write of block n, of so many, and of memory of one block.
+fn admit(count: u32, n: u32, memory: &[u8]) -> Result<(), BlockFault>
+    ensures { MatchResult result
+        (λ _. (length memory.now ≡ 512) × (n < count))
+        (λ f.
+        ((f ≡ block_fault 18 n) × (length memory.now ≢ 512))
+        ⊎ ((f ≡ block_fault 53 n) × (length memory.now ≡ 512) × (count ≤ n))) }
+{
+    if memory.len() != 512 {
+        return Err(BlockFault::new(Decline::Memory, n));
+    }
+    if n >= count {
+        return Err(BlockFault::new(Decline::Beyond, n));
+    }
+    Ok(())
+}
+
 // Writes two blocks in order, the second only if the first was accepted.
+// Kept: a block's number and its bytes are two parameters here as in `write`: a struct of both would be made at each call only to be taken apart.
 pub fn write_two<D: Device>(
     device: &mut D,
     m: u32,

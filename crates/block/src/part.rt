@@ -1,10 +1,10 @@
 // A part of any device.
-ghost use Rattle.std.specs.Prelude.{◌≡◌, ◌+◌, ◌-◌, ◌^◌, ◌<◌, ◌≤◌, min, true, length, MatchOption};
-ghost use Rattle.block.specs.Disk.{disk_of, Reads, Writes};
+ghost use Rattle.std.specs.Prelude.{◌≡◌, ◌+◌, ◌-◌, ◌^◌, ◌<◌, min, true, length, MatchResult};
+ghost use Rattle.block.specs.Disk.{disk_of, Proper, Improper, Reads, Writes};
 ghost use Rattle.block.specs.Parts.{part_of, Confined, about_block};
 
-use crate::Device;
-use decline::{BlockFault, Decline};
+use crate::{Device, admit};
+use decline::BlockFault;
 
 // Up to `limit` blocks of a device from block `first` on, as far as they exist, numbered from 0.
 #[derive(Drop)]
@@ -18,10 +18,7 @@ pub struct Partition<D: Device> {
 fn about_block(n: u32, answer: Result<(), BlockFault>) -> Result<(), BlockFault>
     ensures { result ≡ about_block n answer }
 {
-    match answer {
-        Ok(()) => Ok(()),
-        Err(fault) => Err(BlockFault { block: n, ..fault }),
-    }
+    answer.map_err(|fault| BlockFault { block: n, ..fault })
 }
 
 impl<D: Device> Partition<D> {
@@ -39,37 +36,19 @@ impl<D: Device> Partition<D> {
     pub fn into_inner(self) -> D
         ensures { result ≡ self.device }
     {
-        let Partition {
-            device,
-            first: _,
-            limit: _,
-        } = self;
+        let Partition { device, .. } = self;
         device
     }
 
-    // How many blocks the part has.
-    fn size(&self) -> u32
+    // The block of the device that is block n of the part, for a read or a write of so much memory.
+    fn place(&self, n: u32, memory: &[u8]) -> Result<u32, BlockFault>
         requires { D.Device.kept self.now.device }
-        ensures blocks { result ≡ length (part_of D.Device.disk self.now).blocks }
-        ensures least { result ≡ min self.now.limit (length (D.Device.disk self.now.device).blocks - self.now.first) }
-        ensures numbered { self.now.first + result < 2 ^ 32 }
+        ensures { MatchResult result
+            (λ m. (m ≡ self.now.first + n) × Proper (part_of D.Device.disk self.now) n memory.now)
+            (Improper (part_of D.Device.disk self.now) n memory.now) }
     {
-        self.device
-            .count()
-            .saturating_sub(self.first)
-            .min(self.limit)
-    }
-
-    // The block of the device that is block n of the part, if the part has one.
-    fn place(&self, n: u32) -> Option<u32>
-        requires { D.Device.kept self.now.device }
-        ensures { MatchOption result (length (part_of D.Device.disk self.now).blocks ≤ n) (λ m. (m ≡ self.now.first + n) × (n < length (part_of D.Device.disk self.now).blocks)) }
-    {
-        if n < self.size() {
-            Some(self.first + n)
-        } else {
-            None
-        }
+        admit(self.count(), n, memory)?;
+        Ok(self.first + n)
     }
 }
 
@@ -82,8 +61,12 @@ impl<D: Device> Device for Partition<D> {
         requires { D.Device.kept self.now.device }
         ensures blocks { result ≡ length (part_of D.Device.disk self.now).blocks }
         ensures least { result ≡ min self.now.limit (length (D.Device.disk self.now.device).blocks - self.now.first) }
+        ensures numbered { self.now.first + result < 2 ^ 32 }
     {
-        self.size()
+        self.device
+            .count()
+            .saturating_sub(self.first)
+            .min(self.limit)
     }
 
     fn read(&mut self, n: u32, into: &mut [u8]) -> Result<(), BlockFault>
@@ -92,14 +75,8 @@ impl<D: Device> Device for Partition<D> {
         ensures reads { Reads (part_of D.Device.disk self.old) n into.old into.new (part_of D.Device.disk self.new) result }
         ensures confined { Confined D.Device.disk self.old self.new }
     {
-        if into.len() != 512 {
-            return Err(BlockFault::new(Decline::Memory, n));
-        }
-        let Some(at) = self.place(n) else {
-            return Err(BlockFault::new(Decline::Beyond, n));
-        };
-        let answer = self.device.read(at, into);
-        about_block(n, answer)
+        let at = self.place(n, into)?;
+        about_block(n, self.device.read(at, into))
     }
 
     fn write(&mut self, n: u32, from: &[u8]) -> Result<(), BlockFault>
@@ -108,14 +85,8 @@ impl<D: Device> Device for Partition<D> {
         ensures writes { Writes (part_of D.Device.disk self.old) n from.now (part_of D.Device.disk self.new) result }
         ensures confined { Confined D.Device.disk self.old self.new }
     {
-        if from.len() != 512 {
-            return Err(BlockFault::new(Decline::Memory, n));
-        }
-        let Some(at) = self.place(n) else {
-            return Err(BlockFault::new(Decline::Beyond, n));
-        };
-        let answer = self.device.write(at, from);
-        about_block(n, answer)
+        let at = self.place(n, from)?;
+        about_block(n, self.device.write(at, from))
     }
 
     fn resume(&mut self)

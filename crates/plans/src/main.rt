@@ -2,14 +2,16 @@
 // blocks hold after the device is resumed.
 #![tactic(auto)]
 
-ghost use Rattle.std.specs.Prelude.{◌≡◌, true, Decides};
+ghost use Rattle.std.specs.Prelude.{◌≡◌, true};
 ghost use Rattle.block.specs.Disk.{disk_of, Writes};
 ghost use Rattle.block.specs.Parts.{part, SameOutside};
-ghost use Rattle.block.specs.Plans.{Numbered, array_disk};
+ghost use Rattle.block.specs.Plans.{array_disk};
 ghost use Rattle.plans.specs.Scenario.{all, Ran, Finds, FindsAll, Reports};
 
 use block::{BlockArray, Device, Outcome, Partition, Plan, write_two};
 use decline::BlockFault;
+use std::alloc::{AllocError, Global};
+use std::iter::once;
 use std::{fmt, io};
 
 // What each call of the scenario answered.
@@ -20,26 +22,16 @@ struct Answers {
     part: Result<(), BlockFault>,
 }
 
-// What is found in a block: the zeros of the making, what the scenario writes, something else, or the number of a decline.
+// What a block holds: the zeros of the making, what the scenario writes, or something else.
 #[derive(Clone, Copy)]
-enum Found {
+enum Contents {
     Old,
     New,
     Other,
-    Declined(u8),
-}
-
-// A block of nothing but a byte.
-fn block_of(byte: u8) -> [u8; 512]
-    ensures { result ≡ all byte }
-{
-    [byte; 512]
 }
 
 // Writes block n of the part of two blocks from block 2 on, and gives the device back.
 fn write_part(device: BlockArray, n: u32, from: &[u8]) -> (BlockArray, Result<(), BlockFault>)
-    requires { Numbered device }
-    ensures keeps { Numbered result.0 }
     ensures writes { Writes (part 2 2 (array_disk device)) n from.now (part 2 2 (array_disk result.0)) result.1 }
     ensures outside { SameOutside 2 2 (array_disk device) (array_disk result.0) }
 {
@@ -50,8 +42,6 @@ fn write_part(device: BlockArray, n: u32, from: &[u8]) -> (BlockArray, Result<()
 
 // Writes block 0, then blocks 1 and 2 as a pair, then block 3 as block 1 of the part from block 2 on.
 fn run(mut device: BlockArray, new: &[u8]) -> (BlockArray, Answers)
-    requires { Numbered device }
-    ensures keeps { Numbered result.0 }
     ensures runs { Ran (array_disk device) new.now (array_disk result.0) result.1 }
 {
     let single = device.write(0, new);
@@ -60,40 +50,29 @@ fn run(mut device: BlockArray, new: &[u8]) -> (BlockArray, Answers)
     (device, Answers { single, pair, part })
 }
 
-// Whether a block holds nothing but a byte.
-fn holds(bytes: &[u8; 512], byte: u8) -> bool
-    ensures { Decides result (bytes.now ≡ all byte) }
-{
-    *bytes == [byte; 512]
-}
-
-// Reads block n.
-fn find(device: &mut BlockArray, n: u32) -> Found
-    requires { Numbered device.old }
+// What is found in block n.
+fn find(device: &mut BlockArray, n: u32) -> Result<Contents, BlockFault>
     ensures same { device.new ≡ device.old }
     ensures finds { Finds (array_disk device.old) n result }
 {
-    let mut bytes = block_of(2);
-    if let Err(fault) = device.read(n, &mut bytes) {
-        return Found::Declined(fault.number);
+    let mut bytes = [2; 512];
+    device.read(n, &mut bytes)?;
+    if bytes == [0; 512] {
+        return Ok(Contents::Old);
     }
-    if holds(&bytes, 0) {
-        return Found::Old;
+    if bytes == [1; 512] {
+        return Ok(Contents::New);
     }
-    if holds(&bytes, 1) {
-        return Found::New;
-    }
-    Found::Other
+    Ok(Contents::Other)
 }
 
 // Resumes the device, and reads its four blocks back.
-fn read_back(device: &mut BlockArray) -> [Found; 4]
-    requires { Numbered device.old }
-    ensures keeps { Numbered device.new }
+fn read_back(device: &mut BlockArray) -> [Result<Contents, BlockFault>; 4]
     ensures resumes { array_disk device.new ≡ disk_of (array_disk device.old).blocks true }
     ensures finds { FindsAll (array_disk device.new) result }
 {
     device.resume();
+    // Kept: `[0, 1, 2, 3].map(|n| find(device, n))` proves neither clause, as nothing is known of what its closure borrowed.
     [
         find(device, 0),
         find(device, 1),
@@ -106,17 +85,14 @@ fn read_back(device: &mut BlockArray) -> [Found; 4]
 #[derive(Clone, Copy)]
 struct Report {
     answers: Answers,
-    found: [Found; 4],
+    found: [Result<Contents, BlockFault>; 4],
 }
 
 // Runs the scenario, resumes the device and reads the blocks back.
 fn run_and_read(device: BlockArray) -> (BlockArray, Report)
-    requires { Numbered device }
-    ensures keeps { Numbered result.0 }
     ensures reports { Reports (array_disk device) (array_disk result.0) result.1 }
 {
-    let new = block_of(1);
-    let (mut device, answers) = run(device, &new);
+    let (mut device, answers) = run(device, &[1; 512]);
     let found = read_back(&mut device);
     (device, Report { answers, found })
 }
@@ -134,14 +110,17 @@ impl fmt::Display for Answer {
     }
 }
 
-// What is found in a block, in three places.
+// What is found in a block, in three places: what it holds, or the number of the decline.
+#[derive(Clone, Copy)]
+struct Found(Result<Contents, BlockFault>);
+
 impl fmt::Display for Found {
     fn fmt<W: fmt::Write>(&self, f: &mut fmt::Formatter<W>) -> fmt::Result {
-        match self {
-            Found::Old => write!(f, "old"),
-            Found::New => write!(f, "new"),
-            Found::Other => write!(f, "???"),
-            Found::Declined(number) => write!(f, "{number:3}"),
+        match self.0 {
+            Ok(Contents::Old) => write!(f, "old"),
+            Ok(Contents::New) => write!(f, "new"),
+            Ok(Contents::Other) => write!(f, "???"),
+            Err(BlockFault { number, block: _ }) => write!(f, "{number:3}"),
         }
     }
 }
@@ -149,7 +128,7 @@ impl fmt::Display for Found {
 impl fmt::Display for Report {
     fn fmt<W: fmt::Write>(&self, f: &mut fmt::Formatter<W>) -> fmt::Result {
         let Answers { single, pair, part } = self.answers;
-        let [a, b, c, d] = self.found;
+        let [a, b, c, d] = self.found.map(Found);
         write!(
             f,
             "{} {} {} | {a} {b} {c} {d}",
@@ -186,31 +165,20 @@ fn try_plan(rt: &HostRuntime, plan: Option<Plan>) -> io::Result<()> {
     println!(rt; "{} | {first} | {second}", Label(plan))
 }
 
-// Tries the three outcomes at a write, and says how many plans that were.
-fn try_write(rt: &HostRuntime, write: u32) -> io::Result<u32> {
-    let mut tried = 0u32;
-    for outcome in [Outcome::Old, Outcome::New, Outcome::Unreadable] {
-        try_plan(rt, Some(Plan { write, outcome }))?;
-        tried = tried.saturating_add(1);
-    }
-    Ok(tried)
-}
-
-// Tries no plan, and each plan for the four writes of the scenario, and says how many that were.
-fn try_all(rt: &HostRuntime) -> io::Result<u32> {
-    try_plan(rt, None)?;
-    let mut tried = 1u32;
-    for write in 0..4 {
-        let more = try_write(rt, write)?;
-        tried = tried.saturating_add(more);
-    }
-    Ok(tried)
+// No plan, and each plan for the four writes of the scenario.
+fn all_plans(heap: Global) -> Result<Vec<Option<Plan>>, AllocError> {
+    let outcomes = [Outcome::Old, Outcome::New, Outcome::Unreadable];
+    let plans = (0..4).flat_map(|write| outcomes.map(|outcome| Some(Plan { write, outcome })));
+    once(None).chain(plans).collect(heap)
 }
 
 fn main(rt: HostRuntime) -> io::Result<()> {
     println!(rt;
         "plan               | one   pair  part  | block 0 1 2 3   | again             | block 0 1 2 3"
     )?;
-    let tried = try_all(&rt)?;
-    println!(rt; "plans tried: {tried}")
+    let plans = all_plans(rt.alloc())?;
+    for plan in &plans {
+        try_plan(&rt, *plan)?;
+    }
+    println!(rt; "plans tried: {}", plans.len())
 }

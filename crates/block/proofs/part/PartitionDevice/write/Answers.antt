@@ -1,9 +1,7 @@
-use Rattle.block.proofs.PartCalls.{write_in_part, write_confined}
+use Rattle.std.proofs.Common.{arith}
+use Rattle.std.proofs.lemmas.Grind.{common_steps}
+use Rattle.block.proofs.Parts.{part_set}
 use Rattle.block.proofs.part.PartitionDevice.write.Goals as goal
 
-pub returns : goal.returns
-returns g c = record {
-  keeps = c.write-answer.ensures.keeps;
-  writes = write_in_part _ _ _ _ _ c.in-Some.ensures.0 c.in-Some.ensures.1 _ _ _ _ c.about_block.ensures c.write-answer.ensures.writes;
-  confined = write_confined _ _ _ _ c.in-Some.ensures.0 c.in-Some.ensures.1 _ _ _ c.write-answer.ensures.writes;
-}
+pub returns-clause-writes : goal.returns-clause-writes
+returns-clause-writes g c = grind (arith, common_steps, part_set)
