@@ -50,27 +50,26 @@ pub fn read(text: &[u8]) -> Result<Revision, Fault>
 }
 
 // The lower-case byte of a digit.
-fn digit_char(digit: u8) -> u8
+fn digit_char(digit: u32) -> u8
     requires { digit < 36 }
     ensures { result ≡ digit_char digit }
 {
-    if digit < 10 {
-        b'0' + digit
-    } else {
-        b'a' + (digit - 10)
-    }
+    char::from_digit(digit, 36).unwrap() as u8
 }
 
-// Fills lent memory, from its end, with the digits of a number in a base, in lower case.
-fn fill_digits(base: u64, n: u64, out: &mut [u8])
+// A number in so many digits of a base, in lower case.
+fn digits<const N: usize>(base: u64, n: u64) -> [u8; N]
     requires { (2 ≤ base) × (base ≤ 36) }
-    ensures { out.new ≡ digits_in base (length out.old) n }
+    ensures { result ≡ digits_in base N n }
 {
+    let mut out = [0u8; N];
     let mut rest = n;
-    for i in (0..out.len()).rev() {
-        out[i] = digit_char((rest % base) as u8);
+    // Kept: tried as `out.iter_mut().rev()`, behind which a proof knows nothing of the bytes that were written.
+    for i in (0..N).rev() {
+        out[i] = digit_char((rest % base) as u32);
         rest /= base;
     }
+    out
 }
 
 // How many zeros stand in front, among so many bytes.
@@ -108,15 +107,14 @@ fn lay_text(revision: Revision, out: &mut [u8]) -> usize
     requires { (good_generation revision.generation ≡ true) × (20 ≤ length out.old) }
     ensures { Wrote revision.generation revision.tag out.old out.new result }
 {
-    let mut decimal = [0u8; 3];
-    fill_digits(10, revision.generation as u64, &mut decimal);
-    let mut hexadecimal = [0u8; 16];
-    fill_digits(16, revision.tag, &mut hexadecimal);
-    lay_parts(stripped(2, &decimal), stripped(14, &hexadecimal), out)
+    let generation: [u8; 3] = digits(10, revision.generation as u64);
+    let tag: [u8; 16] = digits(16, revision.tag);
+    lay_parts(stripped(2, &generation), stripped(14, &tag), out)
 }
 
 // Writes the text of a revision over the front of lent memory, and gives its length. A generation outside 1 to 200 is
 // declined as no revision, then memory shorter than the longest text; a decline leaves the memory untouched.
+// Kept: nothing is allocated, so the text goes into lent memory, and its length is the answer.
 pub fn write(revision: Revision, out: &mut [u8]) -> Result<usize, Fault>
     ensures { Writes revision.generation revision.tag out.old out.new result }
 {

@@ -1,5 +1,4 @@
-use Rattle.std.proofs.Common.{rules, subst, get_or, ◌≡◌, ◌+◌, ◌*◌, ◌^◌, ◌<◌, true, Some, sym, ap, ◌∙◌, ⊎_elim, arith}
-use Rattle.std.specs.Char.{digit_value}
+use Rattle.std.proofs.Common.{rules, ◌≡◌, ◌+◌, ◌*◌, ◌^◌, ◌<◌, true, Some, sym, ap, ◌∙◌, ⊎_elim, arith}
 use Rattle.std.specs.Str.Parse.{digits_value}
 use Rattle.std.proofs.lemmas.Int.Digits.{digits_more}
 use Rattle.std.proofs.lemmas.List.{at_drop_all, take_all}
