@@ -7,7 +7,7 @@ ghost use Rattle.keys.specs.Keys.{passes, key_bytes, key_in};
 ghost use Rattle.keys.specs.Values.{RuleRead, KeyMade, FormRead, KeyRead, prefix_of, key_of};
 
 use decline::{Decline, Fault};
-use octets::{Packed, lay, number_of};
+use octets::{Packed, number_of};
 use revision::id_bytes;
 
 // A rule in plain numbers: a prefix of 0 to 16 bytes.
@@ -92,7 +92,7 @@ impl Key {
         let prefix = self.rule.prefix.bytes();
         let n = (self.rule.prefix.length as usize).min(16);
         let mut filled = [0u8; 16];
-        lay(&mut filled, &prefix[0..n]);
+        filled[0..n].copy_from_slice(&prefix[0..n]);
         let mut out = [0u8; 25];
         out[0..4].copy_from_slice(&self.source.to_be_bytes());
         out[4..8].copy_from_slice(&self.target.to_be_bytes());

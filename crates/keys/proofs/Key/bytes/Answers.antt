@@ -1,4 +1,5 @@
 use Rattle.std.proofs.Common.{◌≡◌, ◌-◌, ◌≤◌, min, length, take, sym, ◌∙◌, arith}
+use Rattle.std.proofs.lemmas.Grind.{common_steps}
 use Rattle.octets.proofs.Packing.{filled_laid, unpacked_part, length_unpacked}
 use Rattle.octets.proofs.Widths.{four_bytes}
 use Rattle.keys.specs.Values.{prefix_of}
@@ -12,6 +13,6 @@ returns c =
     let n : length r ≡ min c.args.self.rule.prefix.length 16 = length_unpacked c.args.self.rule.prefix in
     let l : length r ≤ 16 = omega arith in
     assembled _ _ _ r _ c.args.self.source c.args.self.target
-    (c.copy_from_slice.ensures.after ∙ (c.to_be_bytes.ensures ∙ sym (four_bytes c.args.self.source)))
-    (c.copy_from_slice-2.ensures.after ∙ (c.to_be_bytes-2.ensures ∙ sym (four_bytes c.args.self.target)))
-    (c.copy_from_slice-3.ensures.after ∙ filled_laid 16 c.lay.result _ r _ _ u l c.lay.ensures) (c.min-n.ensures ∙ sym n)
+    (c.copy_from_slice-2.ensures.after ∙ (c.to_be_bytes.ensures ∙ sym (four_bytes c.args.self.source)))
+    (c.copy_from_slice-3.ensures.after ∙ (c.to_be_bytes-2.ensures ∙ sym (four_bytes c.args.self.target)))
+    (c.copy_from_slice-4.ensures.after ∙ filled_laid 16 (take (c.min-n.result - 0) c.bytes-prefix.result) r _ u l (grind (arith, common_steps))) (c.min-n.ensures ∙ sym n)
