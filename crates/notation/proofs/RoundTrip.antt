@@ -1,16 +1,18 @@
 -- What is written reads back.
-use Rattle.std.proofs.Common.{◌≡◌, ℕ, zero, suc, ◌+◌, ◌*◌, ◌/◌, ◌%◌, ◌^◌, ◌<◌, ◌≤◌, true, eqb, ltb, leb, List, [], ◌∷◌, ◌++◌, length, take, drop, Some, sym, refl, ap, ◌∙◌, mod-lt, div-lt_iff_lt-mul, pow-suc, arith, lit<, lit≤}
+use Rattle.std.proofs.Common.{◌≡◌, ℕ, zero, suc, ◌+◌, ◌*◌, ◌/◌, ◌%◌, ◌^◌, ◌<◌, ◌≤◌, true, not, eqb, ◌==◌, ltb, leb, List, [], ◌∷◌, ◌++◌, length, take, drop, Some, Option, length-append, sym, refl, ap, ◌∙◌, mod-lt, div-lt_iff_lt-mul, pow-suc, arith, lit<, lit≤}
 use native.Mathlib.Nat.{pow-zero}
 use Rattle.std.specs.Str.Parse.{digits_value as value, digits_value_after}
 use Rattle.std.specs.Char.{digit_value, digit_char}
 use Rattle.std.proofs.lemmas.Nat.{div-add-mod'}
 use Rattle.std.proofs.lemmas.Int.Digits.{digits_value_push}
 use Rattle.std.proofs.lemmas.List.{map_push, length-map, take_at, drop_at, append_assoc, length_push}
-use Rattle.std.proofs.lemmas.Bool.{and_from, and_parts, cond-true, cond-false, cond_both, eqb-true, ne_eqb, leb-true, ltb-true, lt-ltb}
+use Rattle.std.proofs.lemmas.Bool.{and_from, and_parts, cond-true, cond_both, eqb-true, ne_eqb, leb-true, ltb-true, lt-ltb}
 use Rattle.std.proofs.lemmas.Str.{digit_value-digit_char}
+use Rattle.std.specs.List.{position_or_len}
 use Rattle.octets.specs.BigEndian.{in_base}
+use Rattle.octets.specs.Places.{place_of}
 use Rattle.octets.proofs.Widths.{length_in_base}
-use Rattle.notation.specs.Text.{all_digits, numeral, dash_in, revision, parse, stripped, digits_in, written}
+use Rattle.notation.specs.Text.{all_digits, numeral, dash, revision, parted, parse, stripped, digits_in, written}
 use Rattle.revision.specs.Ids.{good_generation}
 use Rattle.notation.specs.Outcomes.{Wrote}
 use Rattle.notation.proofs.Numerals.{numeral_value}
@@ -88,11 +90,18 @@ digit_no_dash : (c : ℕ) → digit_value c < 10 → c ≡ 45 → ⊥
 digit_no_dash c h e = let d : digit_value c ≡ 36 = ap digit_value e in omega arith
 
 -- the first dash stands behind the digits
-dash_behind : (cs ds : List ℕ) → all_digits 10 cs ≡ true → dash_in (cs ++ 45 ∷ ds) ≡ length cs
+dash_behind : (cs ds : List ℕ) → all_digits 10 cs ≡ true → position_or_len (λ c. c == dash) (cs ++ dash ∷ ds) ≡ length cs
 dash_behind [] ds e = refl
 dash_behind (c ∷ cs) ds e =
     let p = and_parts (ltb (digit_value c) 10) (all_digits 10 cs) e in
-    cond-false _ _ _ (ne_eqb c 45 (digit_no_dash c (ltb-true _ _ p.0))) ∙ ap suc (dash_behind cs ds p.1)
+    let n : 1 + position_or_len (λ c. c == dash) (cs ++ dash ∷ ds) ≡ length (c ∷ cs) = omega (arith, dash_behind cs ds p.1) in
+    cond-true _ (1 + position_or_len (λ c. c == dash) (cs ++ dash ∷ ds)) 0 (ap not (ne_eqb c 45 (digit_no_dash c (ltb-true _ _ p.0)))) ∙ n
+
+dash_place : (cs ds : List ℕ) → all_digits 10 cs ≡ true → place_of dash (cs ++ dash ∷ ds) ≡ Some (length cs)
+dash_place cs ds e =
+    let n : position_or_len (λ c. c == dash) (cs ++ dash ∷ ds) ≡ length cs = dash_behind cs ds e in
+    let l : position_or_len (λ c. c == dash) (cs ++ dash ∷ ds) < length (cs ++ dash ∷ ds) = omega (arith, n, length-append cs (dash ∷ ds)) in
+    cond-true _ _ _ (lt-ltb _ _ l) ∙ ap Some n
 
 -- a revision's text parses to the revision
 pub parse_written : (g x : ℕ) → good_generation g ≡ true → x < 2 ^ 64 → parse (written g x) ≡ Some (g, x)
@@ -101,13 +110,13 @@ parse_written g x p h =
     let d : List ℕ = stripped 2 (digits_in 10 3 g) in
     let t : List ℕ = stripped 14 (digits_in 16 16 x) in
     let u = leb-true g 200 (and_parts (leb 1 g) (leb g 200) p).1 in
-    let a : dash_in (written g x) ≡ length d = dash_behind d t (stripped_digits 10 2 (digits_in 10 3 g) (digits_are 10 (lit< tt) (lit≤ tt) 3 g)) in
-    let e : take (dash_in (written g x)) (written g x) ≡ d = ap (λ (k : ℕ). take k (written g x)) a ∙ take_at d (45 ∷ t) (length d) refl in
-    let f : drop (dash_in (written g x) + 1) (written g x) ≡ t =
-    ap (λ (k : ℕ). drop (k + 1) (written g x)) a ∙ (ap (drop (length d + 1)) (sym (append_assoc d (45 ∷ []) t)) ∙ drop_at (d ++ 45 ∷ []) t (length d + 1) (length_push d 45)) in
-    let m : numeral 10 3 (take (dash_in (written g x)) (written g x)) ≡ Some g = ap (numeral 10 3) e ∙ numeral_back 10 3 2 g (lit< tt) (lit≤ tt) (lit< tt) (omega arith) in
-    let n : numeral 16 16 (drop (dash_in (written g x) + 1) (written g x)) ≡ Some x = ap (numeral 16 16) f ∙ numeral_back 16 16 14 x (lit< tt) (lit≤ tt) (lit< tt) (omega arith) in
-    (λ i. revision (m i) (n i)) ∙ cond-true _ _ _ p
+    let a : place_of dash (written g x) ≡ Some (length d) = dash_place d t (stripped_digits 10 2 (digits_in 10 3 g) (digits_are 10 (lit< tt) (lit≤ tt) 3 g)) in
+    let f : drop (length d + 1) (written g x) ≡ t =
+    ap (drop (length d + 1)) (sym (append_assoc d (45 ∷ []) t)) ∙ drop_at (d ++ 45 ∷ []) t (length d + 1) (length_push d 45) in
+    let m : numeral 10 3 (take (length d) (written g x)) ≡ Some g =
+    ap (numeral 10 3) (take_at d (45 ∷ t) (length d) refl) ∙ numeral_back 10 3 2 g (lit< tt) (lit≤ tt) (lit< tt) (omega arith) in
+    let n : numeral 16 16 (drop (length d + 1) (written g x)) ≡ Some x = ap (numeral 16 16) f ∙ numeral_back 16 16 14 x (lit< tt) (lit≤ tt) (lit< tt) (omega arith) in
+    ap (λ (o : Option ℕ). parted o (written g x)) a ∙ ((λ i. revision (m i) (n i)) ∙ cond-true _ _ _ p)
 
 -- both parts laid with a dash between them are the text, and it reads back
 pub parts_wrote : (g x n : ℕ) (old new d t : List ℕ) → good_generation g ≡ true → x < 2 ^ 64 → 20 ≤ length old →

@@ -1,9 +1,10 @@
 -- How the text of a number is made.
-use Rattle.std.proofs.Common.{◌≡◌, ℕ, zero, suc, ◌+◌, ◌-◌, ◌/◌, ◌%◌, ◌<◌, ◌≤◌, cond, eqb, List, [], ◌∷◌, ◌++◌, length, get_or, take, drop, set, sym, refl, ap, ◌∙◌, add-one, arith, length-append, length-drop}
+use Rattle.std.proofs.Common.{◌≡◌, ℕ, zero, suc, ◌+◌, ◌-◌, ◌/◌, ◌%◌, ◌<◌, ◌≤◌, eqb, ◌==◌, List, [], ◌∷◌, ◌++◌, length, get_or, take, drop, set, sym, refl, ap, ◌∙◌, add-one, arith, length-append}
 use borrow.Rule.Slice.PartMut.{put_mid}
 use Rattle.std.specs.Char.{digit_char}
-use Rattle.std.proofs.lemmas.List.{drop-set, map_push, append_assoc, at_drop_more, drop_all, take_rest, drop_more, drop-drop, set_at, take_at, drop_at, length_push}
-use Rattle.std.proofs.lemmas.Bool.{cond-true, cond-false, eq-eqb, ne_eqb}
+use Rattle.std.specs.List.{prefix_len}
+use Rattle.std.proofs.lemmas.List.{drop-set, map_push, append_assoc, drop_more, drop-drop, set_at, take_at, drop_at, length_push}
+use Rattle.std.proofs.lemmas.Bool.{cond-true, cond-false, cond_both}
 use Rattle.octets.specs.BigEndian.{in_base}
 use Rattle.notation.specs.Text.{stripped, digits_in}
 
@@ -25,44 +26,20 @@ digits_down base i n s out z h e =
     let d : i - 1 + 1 ≡ i = omega arith in
     digits_before base (i - 1) n s out (omega arith) e ∙ ap (λ (k : ℕ). digits_in base k n ++ drop k out) d
 
--- an empty text has nothing to strip
-stripped_nil : (k : ℕ) → stripped k [] ≡ []
-stripped_nil zero = refl
-stripped_nil (suc k) = refl
-
-module _ (most : ℕ) (cs : List ℕ) (i : ℕ) where
-  stripped_step : i < most → i < length cs → stripped (most - i) (drop i cs) ≡ cond (eqb (get_or cs i 0) 48) (stripped (most - (i + 1)) (drop (i + 1) cs)) (get_or cs i 0 ∷ drop (i + 1) cs)
-  stripped_step m h =
-      let s : most - i ≡ suc (most - (i + 1)) = omega arith in
-      ap (λ (k : ℕ). stripped k (drop i cs)) s ∙ at_drop_more (stripped (suc (most - (i + 1)))) cs i 0 h
-
-  -- a zero goes
-  pub stripped_zero : i < most → i < length cs → get_or cs i 0 ≡ 48 → stripped (most - i) (drop i cs) ≡ stripped (most - (i + 1)) (drop (i + 1) cs)
-  stripped_zero m h e = stripped_step m h ∙ cond-true _ _ _ (eq-eqb _ _ e)
-
-  -- at another byte nothing more goes
-  pub stripped_other : i < most → i < length cs → (get_or cs i 0 ≡ 48 → ⊥) → stripped (most - i) (drop i cs) ≡ drop i cs
-  stripped_other m h e = stripped_step m h ∙ (cond-false _ _ _ (ne_eqb _ _ e) ∙ sym (at_drop_more (λ (l : List ℕ). l) cs i 0 h))
-
-  -- nor where as many went as may
-  pub stripped_most : most ≤ i → stripped (most - i) (drop i cs) ≡ drop i cs
-  stripped_most m = let e : most - i ≡ 0 = omega arith in ap (λ (k : ℕ). stripped k (drop i cs)) e
-
-  -- nor where no byte is left
-  pub stripped_all : length cs ≤ i → stripped (most - i) (drop i cs) ≡ drop i cs
-  stripped_all h = let e = drop_all i cs h in ap (stripped (most - i)) e ∙ (stripped_nil (most - i) ∙ sym e)
-
--- a text from a place on is no longer than it
-pub rest_within : (cs : List ℕ) (i : ℕ) → length (take (length cs - i) (drop i cs)) ≤ length cs
-rest_within cs i = rw take_rest (omega (arith, length-drop i cs))
+-- what is stripped is the zeros in front, among so many bytes
+pub stripped_drop : (most : ℕ) (cs : List ℕ) → drop (prefix_len (λ c. c == 48) (take most cs)) cs ≡ stripped most cs
+stripped_drop zero cs = refl
+stripped_drop (suc k) [] = refl
+stripped_drop (suc k) (c ∷ cs) =
+    let n : 1 + prefix_len (λ c. c == 48) (take k cs) ≡ suc (prefix_len (λ c. c == 48) (take k cs)) = omega arith in
+    cond_both (eqb c 48) (1 + prefix_len (λ c. c == 48) (take k cs)) 0 (λ (n : ℕ). drop n (c ∷ cs) ≡ stripped (suc k) (c ∷ cs))
+    (λ e. ap (λ (m : ℕ). drop m (c ∷ cs)) n ∙ (stripped_drop k cs ∙ sym (cond-true _ _ _ e))) (λ e. sym (cond-false _ _ _ e))
 
 module _ (x y out : List ℕ) where
   -- a byte laid behind the front
-  byte_laid : (c : ℕ) → length x < length out → set (x ++ drop (length x - 0) out) (length x) c ≡ (x ++ c ∷ []) ++ drop (length x + 1) out
+  byte_laid : (c : ℕ) → length x < length out → set (x ++ drop (length x) out) (length x) c ≡ (x ++ c ∷ []) ++ drop (length x + 1) out
   byte_laid c h =
-      let n : length x - 0 ≡ length x = omega arith in
-      let d : drop (length x - 0) out ≡ get_or out (length x) 0 ∷ drop (length x + 1) out = ap (λ (k : ℕ). drop k out) n ∙ drop_more out (length x) 0 h in
-      ap (λ (l : List ℕ). set (x ++ l) (length x) c) d
+      ap (λ (l : List ℕ). set (x ++ l) (length x) c) (drop_more out (length x) 0 h)
       ∙ (set_at x (get_or out (length x) 0) (drop (length x + 1) out) c (length x) refl ∙ sym (append_assoc x (c ∷ []) (drop (length x + 1) out)))
 
   -- a part laid behind a front
@@ -72,7 +49,7 @@ module _ (x y out : List ℕ) where
 
   -- two parts and a byte between them
   pub parts_laid : (c : ℕ) → length x < length out →
-      put_mid (length x + 1) (length x + 1 + length y - (length x + 1)) (set (x ++ drop (length x - 0) out) (length x) c) y ≡ (x ++ c ∷ y) ++ drop (length x + 1 + length y) out
+      put_mid (length x + 1) (length x + 1 + length y - (length x + 1)) (set (x ++ drop (length x) out) (length x) c) y ≡ (x ++ c ∷ y) ++ drop (length x + 1 + length y) out
   parts_laid c h =
       let k : length x + 1 + length y - (length x + 1) ≡ length y = omega arith in
       let rest : List ℕ = drop (length x + 1) out in

@@ -19,19 +19,20 @@ all_digits base (c ∷ cs) = nat_lt (digit_value c) base && all_digits base cs
 unfoldable pub numeral : ℕ → ℕ → List ℕ → Option ℕ
 numeral base most cs = cond (nat_lt 0 (length cs) && (nat_le (length cs) most && all_digits base cs)) (Some (digits_value base cs)) None
 
--- the place of the first dash, or the length where there is none
-abbrev pub dash_in : List ℕ → ℕ
-dash_in cs = place_of dash cs
-
 -- a revision of a generation and a tag, where both are read and the generation is 1 to 200
 abbrev pub revision : Option ℕ → Option ℕ → Option (ℕ × ℕ)
 revision None t = None
 revision (Some g) None = None
 revision (Some g) (Some x) = cond (good_generation g) (Some (g, x)) None
 
+-- a numeral on each side of the first dash, whose place is given; without a dash there is none
+abbrev pub parted : Option ℕ → List ℕ → Option (ℕ × ℕ)
+parted None cs = None
+parted (Some i) cs = revision (numeral 10 3 (take i cs)) (numeral 16 16 (drop (i + 1) cs))
+
 -- the generation and the tag that a text writes: a numeral on each side of the first dash
 unfoldable pub parse : List ℕ → Option (ℕ × ℕ)
-parse cs = revision (numeral 10 3 (take (dash_in cs) cs)) (numeral 16 16 (drop (dash_in cs + 1) cs))
+parse cs = parted (place_of dash cs) cs
 
 -- a text without its leading zeros (byte 48), of which at most so many go
 abbrev pub stripped : ℕ → List ℕ → List ℕ

@@ -1,4 +1,3 @@
 pub mod Widths
 pub mod Packing
-pub mod Searching
 pub mod Eights

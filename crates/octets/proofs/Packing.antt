@@ -1,7 +1,6 @@
 -- Packed bytes read back.
-use Rattle.std.proofs.Common.{◌≡◌, ℕ, ◌+◌, ◌-◌, ◌^◌, ◌<◌, ◌≤◌, min, Bool, true, false, List, [], ◌++◌, length, get_or, take, drop, replicate, MatchBool, sym, refl, ap, ◌∙◌, subst, ⊎_elim, arith, lit<, length-append}
-use borrow.Rule.Slice.PartMut.{put_mid}
-use Rattle.std.proofs.lemmas.List.{take-append-drop, take-take, take_at, drop_at, append-nil, length-take-le, length-take, length-drop, length-replicate, drop_all, take_all, drop-replicate, replicate-append-replicate, append_assoc, get_or-take, get_or-drop, get_or_past, get_or_append_left, get_or-append_right, get_or-replicate}
+use Rattle.std.proofs.Common.{◌≡◌, ℕ, ◌+◌, ◌-◌, ◌^◌, ◌<◌, ◌≤◌, min, List, ◌++◌, length, get_or, take, drop, replicate, sym, refl, ap, ◌∙◌, subst, ⊎_elim, arith, lit<, length-append}
+use Rattle.std.proofs.lemmas.List.{take-append-drop, take-take, take_at, length-take-le, length-take, length-drop, length-replicate, take_all, drop-replicate, replicate-append-replicate, append_assoc, get_or-take, get_or-drop, get_or_past, get_or_append_left, get_or-append_right, get_or-replicate}
 use Rattle.std.proofs.lemmas.Bool.{cases_lt}
 use Rattle.std.proofs.lemmas.Int.Digits.{number_lt}
 use Rattle.std.proofs.ByRecursion.{All-from_get_or}
@@ -21,17 +20,6 @@ take_filled k bs h = take-take (length bs) k (bs ++ replicate k 0) h ∙ take_at
 -- what is packed is unpacked
 pub unpacked_packs : (bs : List ℕ) (p : Packed) → Packs bs p → unpacked p ≡ bs
 unpacked_packs bs p k = ap (λ (n : ℕ). take n (sixteen p)) (ap (λ (q : Packed). q.length) k.is) ∙ (ap (λ (l : List ℕ). take (length bs) l) k.same ∙ take_filled 16 bs k.few)
-
--- a second half over zeros
-pub halves : (x y z : List ℕ) → length x ≡ 8 → length y ≡ 8 → length z ≡ 8 → put_mid 8 8 (x ++ z) y ≡ x ++ y
-halves x y z a b c =
-    let s : take 8 (x ++ z) ≡ x = take_at x z 8 a in
-    let t : drop 8 (x ++ z) ≡ z = drop_at x z 8 a in
-    let u : drop 8 z ≡ [] = search_end z c in
-    ap (λ (l : List ℕ). l ++ (y ++ drop 8 (drop 8 (x ++ z)))) s ∙ ap (λ (l : List ℕ). x ++ l) (ap (λ (l : List ℕ). y ++ drop 8 l) t ∙ (ap (λ (l : List ℕ). y ++ l) u ∙ append-nil y))
-  where
-    search_end : (z : List ℕ) → length z ≡ 8 → drop 8 z ≡ []
-    search_end z c = drop_all 8 z (omega arith)
 
 -- bytes laid over zeros are filled with zeros
 pub filled_over : (k : ℕ) (bs : List ℕ) → length bs ≤ k → bs ++ drop (length bs) (replicate k 0) ≡ filled k bs
@@ -82,11 +70,6 @@ numbers_pack bs all p h u e f s n =
     let y : p.second ≡ (packed bs).second = s' ∙ ap (λ (m : List ℕ). number (drop 8 m)) w in
     record { few = h; is = λ i. record { first = x i; second = y i; length = n i }; same = (λ i. a i ++ b i) ∙ (take-append-drop 8 all ∙ w) }
 
--- what was laid into memory that is long enough
-pub laid : (r : Bool) (n m : ℕ) (P Q : Type 0) → MatchBool r P ((m < n) × Q) → n ≤ m → P
-laid true n m P Q w h = w
-laid false n m P Q w h = absurd (omega (arith, w.0))
-
 -- packed alike is the same
 pub packs_once : (bs : List ℕ) (p q : Packed) → Packs bs p → Packs bs q → p ≡ q
 packs_once bs p q x y = x.is ∙ sym y.is
@@ -105,11 +88,9 @@ unpacked_part p all n e m = ap (λ (l : List ℕ). take (n - 0) l) e ∙ take_cl
 pub length_unpacked : (p : Packed) → length (unpacked p) ≡ min p.length 16
 length_unpacked p = length-take p.length (sixteen p)
 
--- bytes laid into zeros that are long enough
-pub filled_laid : (k : ℕ) (b : Bool) (part r out : List ℕ) (Q : Type 0) → part ≡ r → length r ≤ k →
-    MatchBool b (out ≡ part ++ drop (length part) (replicate k 0)) ((k < length part) × Q) → out ≡ filled k r
-filled_laid k b part r out Q e l w =
-    laid b (length part) k _ Q w (omega (arith, ap length e)) ∙ (ap (λ (m : List ℕ). m ++ drop (length m) (replicate k 0)) e ∙ filled_over k r l)
+-- bytes laid over zeros are filled with zeros, also where another list says which bytes they are
+pub filled_laid : (k : ℕ) (part r out : List ℕ) → part ≡ r → length r ≤ k → out ≡ part ++ drop (length part) (replicate k 0) → out ≡ filled k r
+filled_laid k part r out e l w = w ∙ (ap (λ (m : List ℕ). m ++ drop (length m) (replicate k 0)) e ∙ filled_over k r l)
 
 -- what few bytes write is small
 pub number_small : (k : ℕ) (bs : List ℕ) → length bs ≤ k → Small bs → number bs < 256 ^ k

@@ -1,6 +1,6 @@
 -- The lines of the input: fields parted by one space.
-use Rattle.std.specs.Prelude.{◌≡◌, ℕ, ◌+◌, ◌<◌, ◌≤◌, Bool, true, false, cond, ◌⊎◌, List, [], ◌∷◌, length, take, drop, is_some, Some, None, Ok, Err, Option, Result, ◌==◌, nat_le, slice_index_or}
-use Rattle.octets.specs.Places.{place_of}
+use Rattle.std.specs.Prelude.{◌≡◌, ℕ, ◌<◌, ◌≤◌, Bool, true, false, cond, ◌⊎◌, List, [], ◌∷◌, length, is_some, Some, None, Ok, Err, Option, Result, ◌==◌, nat_le, slice_index_or}
+use Rattle.std.specs.List.{before_first, after_first}
 use Rattle.decline.specs.declared.Fault.{Fault}
 use Rattle.decline.specs.Faults.{bare}
 use Rattle.decline.specs.Verdicts.{first_failed}
@@ -15,10 +15,10 @@ use Rattle.prices.specs.declared.Price.{Price}
 
 -- what stands before the first byte b, and what stands behind it
 abbrev pub front : ℕ → List ℕ → List ℕ
-front b cs = take (place_of b cs) cs
+front b cs = before_first (λ c. c == b) cs
 
 abbrev pub behind : ℕ → List ℕ → List ℕ
-behind b cs = drop (place_of b cs + 1) cs
+behind b cs = after_first (λ c. c == b) cs
 
 -- a mark is one digit, 0 or 1
 abbrev pub mark_field : List ℕ → Option Mark

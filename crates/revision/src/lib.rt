@@ -10,7 +10,7 @@ ghost use Rattle.revision.specs.Values.{IdRead, IdLaid, RevisionMade, mark_numbe
 ghost use Rattle.std.proofs.Common.{rules};
 
 use decline::{Decline, Fault};
-use octets::{Packed, lay};
+use octets::Packed;
 use order::{Ranked, arrange, greatest};
 use std::cmp::Ordering;
 
@@ -84,7 +84,7 @@ impl DocumentId {
         }
         let all = self.bytes.bytes();
         let n = (self.bytes.length as usize).min(16);
-        lay(out, &all[0..n]);
+        out[0..n].copy_from_slice(&all[0..n]);
         Ok(n)
     }
 }

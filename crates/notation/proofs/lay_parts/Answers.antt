@@ -10,7 +10,7 @@ returns c =
     let n : ℕ = length x + 1 in
     record {
       laid =
-          (λ i. put_mid n (n + length y - n) (set (c.copy_from_slice.ensures.after i ++ drop (length x - 0) c.args.out.now) (length x) 45) (c.copy_from_slice-2.ensures.after i))
+          (λ i. put_mid n (n + length y - n) (set (c.copy_from_slice.ensures.after i ++ drop (length x) c.args.out.now) (length x) 45) (c.copy_from_slice-2.ensures.after i))
           ∙ parts_laid x y c.args.out.now 45 (omega arith);
       many = parts_many x y c.args.out.now 45;
     }
