@@ -155,6 +155,7 @@ fn live_in(heads: &[Head]) -> usize
 
 // Puts a document's heads in order, greatest first, and answers how many conflicts there are: they stand right behind
 // the winner.
+// Kept: with a slice of them as the result, no clause can name the heads after the call, and the order that they are in is promised of these.
 pub fn conflicts(heads: &mut [Head]) -> usize
     ensures { Conflicts heads.old result heads.new }
 {
