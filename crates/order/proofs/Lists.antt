@@ -1,19 +1,8 @@
--- Tests over lists, step by step from the front, and lists of numbers that are the same.
-use Rattle.std.proofs.Common.{◌≡◌, ℕ, zero, suc, ◌+◌, ◌<◌, ◌≤◌, Bool, true, false, ◌&&◌, eqb, ◌⊎◌, List, [], ◌∷◌, ◌++◌, length, get_or, drop, Some, None, sym, refl, ap, ◌∙◌, subst₂, inl, inr, arith}
-use Rattle.std.proofs.lemmas.List.{at_drop_more, at_drop_all}
-use Rattle.std.proofs.lemmas.Bool.{and_parts, and_from, and_left, eqb-true, eq-eqb, false≢true}
-use Rattle.order.specs.Lists.{Mem, every, nth, same, final}
+-- Lists of numbers that are the same, and members by their places.
+use Rattle.std.proofs.Common.{◌≡◌, ℕ, zero, suc, ◌<◌, ◌≤◌, true, eqb, ◌⊎◌, List, [], ◌∷◌, ◌++◌, length, get_or, Some, None, sym, refl, subst₂, inl, inr, arith}
+use Rattle.std.proofs.lemmas.Bool.{and_parts, and_from, eqb-true, eq-eqb, false≢true}
+use Rattle.order.specs.Lists.{Mem, nth, same, final}
 use Rattle.order.specs.Order.{NoneGreater}
-
-module _ {A : Type 0} (test : A → Bool) (xs : List A) (i : ℕ) where
-  pub every_stop : (d : A) → i < length xs → test (get_or xs i d) ≡ false → every test (drop i xs) ≡ false
-  every_stop d h f = at_drop_more (every test) xs i d h ∙ and_left _ _ f
-
-  pub every_more : (d : A) → i < length xs → test (get_or xs i d) ≡ true → every test (drop i xs) ≡ every test (drop (i + 1) xs)
-  every_more d h t = at_drop_more (every test) xs i d h ∙ ap (λ (b : Bool). b && every test (drop (i + 1) xs)) t
-
-  pub every_end : length xs ≤ i → every test (drop i xs) ≡ true
-  every_end h = at_drop_all (every test) xs i h
 
 pub same_true : (a b : List ℕ) → same a b ≡ true → a ≡ b
 same_true [] [] e = refl

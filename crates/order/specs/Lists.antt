@@ -1,5 +1,6 @@
 -- Members of lists, and lists of numbers.
-use Rattle.std.specs.Prelude.{◌≡◌, ℕ, zero, suc, Bool, true, false, ◌&&◌, ◌⊎◌, List, [], ◌∷◌, Some, None, Option, ◌==◌}
+use Rattle.std.specs.Prelude.{◌≡◌, ℕ, Bool, true, false, ◌&&◌, ◌⊎◌, List, [], ◌∷◌, Option, slice_get, ◌==◌}
+use Rattle.std.specs.List.{list_all}
 
 -- a is a member
 abbrev pub Mem : {A : Type 0} → A → List A → Type 0
@@ -13,14 +14,11 @@ Each P (x ∷ xs) = P x × Each P xs
 
 -- whether all members pass a test
 abbrev pub every : {A : Type 0} → (A → Bool) → List A → Bool
-every test [] = true
-every test (x ∷ xs) = test x && every test xs
+every test xs = list_all test xs
 
 -- member i, 0 the first, or none
 abbrev pub nth : {A : Type 0} → List A → ℕ → Option A
-nth [] i = None
-nth (x ∷ xs) zero = Some x
-nth (x ∷ xs) (suc i) = nth xs i
+nth xs i = slice_get xs i
 
 -- the last number of a list
 abbrev pub final : List ℕ → ℕ

@@ -4,6 +4,7 @@ pub mod Ids
 pub mod LiveFront
 pub mod Histories
 pub mod Lines
+pub mod Ordered
 pub mod Places
 pub mod Tags
 pub mod Trees

@@ -1,26 +1,12 @@
 -- Live heads stand in front where heads fall.
-use Rattle.std.proofs.Common.{◌≡◌, ℕ, zero, suc, ◌+◌, ◌-◌, ◌<◌, ◌≤◌, Bool, true, false, cond, eqb, List, [], ◌∷◌, length, get_or, take, drop, sym, refl, ap, ◌∙◌, inl, arith}
-use Rattle.std.proofs.lemmas.List.{at_drop_more, at_drop_all}
-use Rattle.std.proofs.lemmas.Bool.{eqb-true, eqb-false, eq-eqb, ne_eqb}
+use Rattle.std.proofs.Common.{◌≡◌, ℕ, zero, suc, ◌-◌, ◌<◌, Bool, true, false, cond, eqb, List, [], ◌∷◌, length, get_or, take, drop, sym, refl, ap, ◌∙◌, inl, arith}
+use Rattle.std.proofs.lemmas.Bool.{eqb-true, eqb-false}
 use Rattle.order.specs.Order.{Falling, Arranged}
 use Rattle.revision.specs.Heads.{live, others_live}
 use Rattle.revision.specs.declared.Head.{Head}
 use Rattle.revision.specs.declared.Mark.{Mark}
 use Rattle.revision.specs.declared.Mark.TheVariants.{Live, Deleted}
 use Rattle.revision.specs.Values.{head_mark, mark_number, Lower, Conflicts}
-
--- a loop that counts live heads, one head on and at the end
-pub count_more : (hs : List Head) (i n m : ℕ) (d : Head) → i < length hs → n + length (live head_mark (drop i hs)) ≡ m →
-    (head_mark (get_or hs i d) ≡ 0 → (n + 1) + length (live head_mark (drop (i + 1) hs)) ≡ m) × ((head_mark (get_or hs i d) ≡ 0 → ⊥) → n + length (live head_mark (drop (i + 1) hs)) ≡ m)
-count_more hs i n m d h e =
-    let s : length (live head_mark (drop i hs)) ≡ length (cond (eqb (head_mark (get_or hs i d)) 0) (get_or hs i d ∷ live head_mark (drop (i + 1) hs)) (live head_mark (drop (i + 1) hs))) =
-    at_drop_more (λ l. length (live head_mark l)) hs i d h in (
-      λ z. let t : length (live head_mark (drop i hs)) ≡ suc (length (live head_mark (drop (i + 1) hs))) = s ∙ ap (λ (b : Bool). length (cond b (get_or hs i d ∷ live head_mark (drop (i + 1) hs)) (live head_mark (drop (i + 1) hs)))) (eq-eqb _ 0 z) in omega arith,
-      λ z. let t : length (live head_mark (drop i hs)) ≡ length (live head_mark (drop (i + 1) hs)) = s ∙ ap (λ (b : Bool). length (cond b (get_or hs i d ∷ live head_mark (drop (i + 1) hs)) (live head_mark (drop (i + 1) hs)))) (ne_eqb _ 0 z) in omega arith,
-    )
-
-pub count_all : (hs : List Head) (i n m : ℕ) → length hs ≤ i → n + length (live head_mark (drop i hs)) ≡ m → n ≡ m
-count_all hs i n m h e = let s : length (live head_mark (drop i hs)) ≡ 0 = at_drop_all (λ l. length (live head_mark l)) hs i h in omega arith
 
 falls_tail : (h : Head) (hs : List Head) → Falling Lower (h ∷ hs) → Falling Lower hs
 falls_tail h hs f i k d a b l = f (suc i) (suc k) d (omega arith) (omega arith) (omega arith)

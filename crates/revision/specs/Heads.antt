@@ -1,5 +1,5 @@
 -- The heads of a tree in their order, winners and conflicts.
-use Rattle.std.specs.Prelude.{◌≡◌, ℕ, ◌<◌, cond, ◌⊎◌, List, [], ◌∷◌, Some, None, Option, ◌==◌}
+use Rattle.std.specs.Prelude.{◌≡◌, ℕ, ◌<◌, filter, ◌⊎◌, List, [], ◌∷◌, Some, None, Option, ◌==◌}
 use Rattle.order.specs.Lists.{Mem}
 use Rattle.revision.specs.Trees.{Content, Tree, content_at}
 
@@ -47,8 +47,7 @@ winner (h ∷ hs) = Some h
 
 -- the live ones of some heads, by their marks
 abbrev pub live : {H : Type 0} → (H → ℕ) → List H → List H
-live mark [] = []
-live mark (h ∷ hs) = cond (mark h == 0) (h ∷ live mark hs) (live mark hs)
+live mark hs = filter (λ h. mark h == 0) hs
 
 -- the conflicts among heads in order, greatest first, are the other live ones
 abbrev pub others_live : {H : Type 0} → (H → ℕ) → List H → List H

@@ -2,17 +2,17 @@
 #![tactic(auto)]
 
 ghost use Rattle.std.specs.Prelude.{◌≡◌, ℕ, ◌<◌, ◌≤◌, Bool, true, false, List, length, Decides};
+ghost use Rattle.std.specs.Ordering.{MatchOrdering as ByOrdering};
 ghost use Rattle.order.specs.Lists.{every};
-ghost use Rattle.revision.specs.Ids.{id_byte, IsId};
+ghost use Rattle.order.specs.Order.{TotalOrder};
+ghost use Rattle.revision.specs.Ids.{id_byte, good_generation, IsId};
 ghost use Rattle.revision.specs.Heads.{live};
 ghost use Rattle.revision.specs.Laws.{TreeLaws};
 ghost use Rattle.revision.specs.Values.{IdRead, IdLaid, RevisionMade, mark_number, MarkRead, head_mark, Lower, Winner, Conflicts};
-ghost use Rattle.std.proofs.Common.{rules};
 
 use decline::{Decline, Fault};
 use octets::Packed;
-use order::{Ranked, arrange, greatest};
-use std::cmp::Ordering;
+use order::{arrange, greatest};
 
 // A document's id in plain numbers. Whatever numbers it is made of, only those of an id are laid out as bytes.
 #[derive(Clone, Copy, PartialEq, Eq, Debug)]
@@ -20,40 +20,26 @@ pub struct DocumentId {
     pub bytes: Packed,
 }
 
-// Whether a byte may stand in an id.
-fn id_byte(b: u8) -> bool
-    ensures { result ≡ id_byte b }
-{
-    0x21 <= b && b <= 0x7e
-}
-
 // Whether every byte may stand in an id.
 pub fn id_bytes(bytes: &[u8]) -> bool
     ensures { result ≡ every id_byte bytes.now }
 {
-    for b in bytes {
-        if !id_byte(*b) {
-            return false;
-        }
-    }
-    true
+    bytes.iter().all(|b| b.is_ascii_graphic())
 }
 
 impl DocumentId {
+    // Kept: a named function in place of TryFrom<&[u8]>, under which callers would have to cut each array literal to a slice.
     // Reads an id of 1 to 16 bytes, each 0x21 to 0x7e; anything else is declined 11.
     pub fn read(bytes: &[u8]) -> Result<DocumentId, Fault>
         ensures { IdRead bytes.now result }
     {
-        if bytes.len() == 0 {
+        if bytes.is_empty() || !id_bytes(bytes) {
             return Err(Fault::from(Decline::Id));
         }
-        if !id_bytes(bytes) {
+        let Some(bytes) = Packed::read(bytes) else {
             return Err(Fault::from(Decline::Id));
-        }
-        match Packed::read(bytes) {
-            Some(bytes) => Ok(DocumentId { bytes }),
-            None => Err(Fault::from(Decline::Id)),
-        }
+        };
+        Ok(DocumentId { bytes })
     }
 
     // Whether the numbers are an id's.
@@ -62,13 +48,7 @@ impl DocumentId {
     {
         let all = self.bytes.bytes();
         let n = self.bytes.length as usize;
-        if n > 16 {
-            return false;
-        }
-        match DocumentId::read(&all[0..n]) {
-            Ok(id) => id.bytes == self.bytes,
-            Err(_) => false,
-        }
+        n <= 16 && DocumentId::read(&all[0..n]) == Ok(self)
     }
 
     // Lays the id's bytes into memory of at least 16 bytes and answers how many they are. Numbers that are no id's are
@@ -89,8 +69,15 @@ impl DocumentId {
     }
 }
 
-// A revision: its generation, 1 to 200, and its tag.
-#[derive(Clone, Copy, PartialEq, Eq, Debug)]
+// Whether a number is a generation, 1 to 200.
+pub fn is_generation(number: u64) -> bool
+    ensures { result ≡ good_generation number }
+{
+    (1..=200).contains(&number)
+}
+
+// A revision: its generation, 1 to 200, and its tag; ordered by the generation, then by the tag.
+#[derive(Clone, Copy, PartialEq, Eq, PartialOrd, Ord, Debug)]
 pub struct Revision {
     pub generation: u8,
     pub tag: u64,
@@ -101,96 +88,74 @@ impl Revision {
     pub fn new(generation: u8, tag: u64) -> Result<Revision, Fault>
         ensures { RevisionMade generation tag result }
     {
-        if generation == 0 {
-            return Err(Fault::from(Decline::Revision));
-        }
-        if generation > 200 {
+        if !is_generation(u64::from(generation)) {
             return Err(Fault::from(Decline::Revision));
         }
         Ok(Revision { generation, tag })
     }
 }
 
-// A head is live, or it says that the document is deleted.
-#[derive(Clone, Copy, PartialEq, Eq, Debug)]
+// A head is live, or it says that the document is deleted; live is above deleted.
+#[derive(Clone, Copy, PartialEq, Eq, PartialOrd, Ord, Debug)]
 pub enum Mark {
-    Live,
     Deleted,
+    Live,
 }
 
-impl Mark {
-    // The mark that a number stands for; above 1 it is declined 13.
-    pub fn read(number: u8) -> Result<Mark, Fault>
-        ensures { MarkRead number result }
-    {
+// The mark that a number stands for; above 1 it is declined 13.
+impl TryFrom<u8> for Mark {
+    type Error = Fault;
+
+    ghost try_from_gives = { MarkRead };
+
+    fn try_from(number: u8) -> Result<Mark, Fault> {
         match number {
             0 => Ok(Mark::Live),
             1 => Ok(Mark::Deleted),
             _ => Err(Fault::from(Decline::Mark)),
         }
     }
+}
 
-    // The number of a mark: 0 live, 1 deleted.
-    pub fn number(self) -> u8
-        ensures { result ≡ mark_number self }
-    {
-        match self {
+// The number of a mark: 0 live, 1 deleted.
+impl From<Mark> for u8 {
+    ghost from_gives = { λ mark number. number ≡ mark_number mark };
+
+    fn from(mark: Mark) -> u8 {
+        match mark {
             Mark::Live => 0,
             Mark::Deleted => 1,
         }
     }
 }
 
-// A head by what its order looks at.
-#[derive(Clone, Copy, PartialEq, Eq, Debug)]
+// A head by what its order looks at: the mark, then the revision.
+#[derive(Clone, Copy, PartialEq, Eq, PartialOrd, Ord, Debug)]
 pub struct Head {
     pub mark: Mark,
     pub revision: Revision,
 }
 
-impl Ranked for Head {
-    ghost less = { Lower };
-
-    ghost total = { Prim.search rules };
-
-    fn compare(&self, other: &Head) -> Ordering {
-        let ours = self.mark.number();
-        let theirs = other.mark.number();
-        if ours != theirs {
-            return theirs.cmp(&ours);
-        }
-        if self.revision.generation != other.revision.generation {
-            return self.revision.generation.cmp(&other.revision.generation);
-        }
-        self.revision.tag.cmp(&other.revision.tag)
-    }
-}
-
 // The winner of a document's heads: the greatest.
 pub fn winner(heads: &[Head]) -> Option<Head>
-    ensures { Winner heads.now result }
+    ensures total { TotalOrder Lower }
+    ensures compares { (h k : Head) → ByOrdering (⟦<Head as Ord>⟧.cmp h k) (Lower h k) (h ≡ k) (Lower k h) }
+    ensures winner { Winner heads.now result }
 {
-    match greatest(heads) {
-        Some(i) => Some(heads[i]),
-        None => None,
-    }
+    let place = greatest(heads)?;
+    Some(heads[place])
 }
 
 // How many heads are live.
 fn live_in(heads: &[Head]) -> usize
     ensures { result ≡ length (live head_mark heads.now) }
 {
-    let mut n = 0;
-    for h in heads {
-        if h.mark.number() == 0 {
-            n += 1;
-        }
-    }
-    n
+    heads.iter().filter(|head| head.mark == Mark::Live).count()
 }
 
 // Puts a document's heads in order, greatest first, and answers how many conflicts there are: they stand right behind
 // the winner.
+// Kept: with a slice of them as the result, no clause can name the heads after the call, and the order that they are in is promised of these.
 pub fn conflicts(heads: &mut [Head]) -> usize
     ensures { Conflicts heads.old result heads.new }
 {
