@@ -4,7 +4,9 @@
 ghost use Rattle.std.specs.Prelude.{◌≡◌, ℕ, ◌+◌, ◌*◌, ◌<◌, ◌≤◌, List, ◌++◌, length, take, drop, MatchOption, MatchResult};
 ghost use Rattle.octets.specs.BigEndian.{number, with_eight};
 ghost use Rattle.octets.specs.Places.{place_of, FirstPlace};
-ghost use Rattle.octets.specs.Packed.{sixteen, Packs};
+ghost use Rattle.octets.specs.Packed.{sixteen, unpacked, Packs};
+
+use arrayvec::ArrayVec;
 
 // The number that the bytes write, of which the first 8 count.
 pub fn number_of(bytes: &[u8]) -> u64
@@ -87,5 +89,14 @@ impl Packed {
         all[..8].copy_from_slice(&self.first.to_be_bytes());
         all[8..].copy_from_slice(&self.second.to_be_bytes());
         all
+    }
+
+    // The bytes that are packed.
+    pub fn unpacked(&self) -> ArrayVec<u8, 16>
+        ensures { result.items ≡ unpacked self.now }
+    {
+        let mut bytes = ArrayVec::from(self.bytes());
+        bytes.truncate(self.length as usize);
+        bytes
     }
 }
