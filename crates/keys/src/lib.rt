@@ -32,9 +32,7 @@ impl Rule {
     pub fn passes(self, id: &[u8]) -> bool
         ensures { result ≡ passes (prefix_of self) id.now }
     {
-        let all = self.prefix.bytes();
-        let n = (self.prefix.length as usize).min(16);
-        id.starts_with(&all[0..n])
+        id.starts_with(&self.prefix.unpacked())
     }
 }
 
@@ -93,14 +91,13 @@ impl Key {
     pub fn bytes(self) -> [u8; 25]
         ensures { result ≡ key_bytes (key_of self) }
     {
-        let prefix = self.rule.prefix.bytes();
-        let n = (self.rule.prefix.length as usize).min(16);
+        let prefix = self.rule.prefix.unpacked();
         let mut filled = [0u8; 16];
-        filled[0..n].copy_from_slice(&prefix[0..n]);
+        filled[..prefix.len()].copy_from_slice(&prefix);
         let mut out = [0u8; 25];
         out[0..4].copy_from_slice(&self.source.to_be_bytes());
         out[4..8].copy_from_slice(&self.target.to_be_bytes());
-        out[8] = n as u8;
+        out[8] = prefix.len() as u8;
         out[9..25].copy_from_slice(&filled);
         out
     }

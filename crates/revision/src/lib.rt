@@ -36,9 +36,7 @@ impl DocumentId {
         if bytes.is_empty() || !id_bytes(bytes) {
             return Err(Fault::from(Decline::Id));
         }
-        let Some(bytes) = Packed::read(bytes) else {
-            return Err(Fault::from(Decline::Id));
-        };
+        let bytes = Packed::read(bytes).ok_or(Decline::Id)?;
         Ok(DocumentId { bytes })
     }
 
@@ -46,9 +44,7 @@ impl DocumentId {
     fn is_id(self) -> bool
         ensures { Decides result (IsId self.bytes) }
     {
-        let all = self.bytes.bytes();
-        let n = self.bytes.length as usize;
-        n <= 16 && DocumentId::read(&all[0..n]) == Ok(self)
+        DocumentId::read(&self.bytes.unpacked()) == Ok(self)
     }
 
     // Lays the id's bytes into memory of at least 16 bytes and answers how many they are. Numbers that are no id's are
@@ -62,10 +58,9 @@ impl DocumentId {
         if out.len() < 16 {
             return Err(Fault::from(Decline::Memory));
         }
-        let all = self.bytes.bytes();
-        let n = (self.bytes.length as usize).min(16);
-        out[0..n].copy_from_slice(&all[0..n]);
-        Ok(n)
+        let id = self.bytes.unpacked();
+        out[..id.len()].copy_from_slice(&id);
+        Ok(id.len())
     }
 }
 
