@@ -1,7 +1,10 @@
 -- Log entries, one more at a time.
-use Rattle.std.proofs.Common.{◌≡◌, ℕ, suc, ◌+◌, ◌-◌, ◌<◌, ◌≤◌, min, Bool, true, false, cond, eqb, List, [], ◌∷◌, ◌++◌, length, get_or, take, drop, set, sym, refl, ap, ◌∙◌, ⊎_elim, arith}
+use Rattle.std.proofs.Common.{◌≡◌, ℕ, zero, suc, ◌+◌, ◌-◌, ◌<◌, ◌≤◌, min, Bool, true, false, cond, eqb, List, [], ◌∷◌, ◌++◌, length, get_or, take, drop, set, Some, None, Option, Bor, sym, refl, ap, ◌∙◌, ⊎_elim, arith}
 use Rattle.std.proofs.lemmas.List.{take_all, take-take, take_more_set, map_more, map_push, drop_more, drop_all, drop-drop, drop-set-lt, get_or-drop, length-take, length-set, set-get_or, take_at, take-map, append-nil, at_drop_more, at_drop_all}
 use Rattle.std.proofs.lemmas.Bool.{cases_lt, eq-eqb, ne_eqb, cond-true, cond-false}
+use Rattle.std.proofs.lemmas.Cmp.{nat_eq_equiv}
+use Rattle.std.specs.List.{AllWithin, HoldsAt}
+use Rattle.std.specs.Option.{MatchOption}
 use Rattle.checkpoint.specs.declared.Entry.{Entry}
 use Rattle.checkpoint.specs.Values.{pair, pairs}
 use Rattle.checkpoint.specs.Logs.{Entries, listed, replaced, entered, settled, common}
@@ -112,17 +115,15 @@ module _ (s p i : ℕ) (t : Bool) (xs ys : List Entry) (d : Entry) (k : Replacin
       any true = refl
       any false = refl
 
-  pub skips : i < length xs → ((get_or ys i d).stamp ≡ s → ⊥) → Replacing s p (i + 1) t xs ys
+  pub skips : i < length xs → ((get_or ys i d).stamp ≡ s → ⊥) → Replacing s p (i + 1) t xs (set ys i (get_or ys i d))
   skips h n =
       let a : get_or ys i d ≡ get_or xs i d = same_at s p i xs ys d h k.long k.rest in
       let q : eqb s (get_or xs i d).stamp ≡ false = ne_eqb s _ (λ z. n (ap (λ (z : Entry). z.stamp) a ∙ sym z)) in
-      let u : set ys i (get_or ys i d) ≡ ys = set-get_or ys i d in
       record {
-        long = k.long;
+        long = length-set ys i (get_or ys i d) ∙ k.long;
         found = sym (ap (λ (b : Bool). cond t true b) q ∙ same t) ∙ more_there s p i xs ys d h k.long k.rest t k.found;
-        front = ap (λ (m : List Entry). pairs (take (i + 1) m)) (sym u) ∙
-            more_pairs s p i xs ys d h k.long k.rest (get_or ys i d) k.front (ap pair a ∙ ap (λ (b : Bool). cond b (s, p) (pair (get_or xs i d))) (sym q));
-        rest = ap (drop (i + 1)) (sym u) ∙ more_drop s p i xs ys d h k.long k.rest (get_or ys i d);
+        front = more_pairs s p i xs ys d h k.long k.rest (get_or ys i d) k.front (ap pair a ∙ ap (λ (b : Bool). cond b (s, p) (pair (get_or xs i d))) (sym q));
+        rest = more_drop s p i xs ys d h k.long k.rest (get_or ys i d);
       }
     where
       same : (t : Bool) → cond t true false ≡ t
@@ -158,16 +159,28 @@ module _ (s p : ℕ) (xs old part : List Entry) (n : ℕ) (b : Bool) (o : old �
       (ap (λ (l : Entries ℕ). take 8 ((s, p) ∷ l)) (ap pairs w ∙ (r ∙ replaced_none eqb s p (pairs old) f)) ∙
       (sym (cond-false (listed eqb s (pairs old)) (replaced eqb s p (pairs old)) _ f) ∙ ap (λ (l : List Entry). entered eqb s p (pairs l)) o)))
 
--- a search for a stamp with its position: the entry that has the stamp, one that has not, and the end
-module _ (s p i : ℕ) (es : List Entry) where
-  settled_step : (d : Entry) → i < length es → settled eqb s p (pairs (drop i es)) ≡ cond (eqb s (get_or es i d).stamp) (eqb p (get_or es i d).position) (settled eqb s p (pairs (drop (i + 1) es)))
-  settled_step d h = at_drop_more (λ l. settled eqb s p (pairs l)) es i d h
+-- the first entry with a stamp, or none, and whether it has the position
+module _ (s p : ℕ) (es : List Entry) where
+  abbrev Other : Entry → Type 0
+  Other e = e.stamp ≡ s → ⊥
 
-  pub settled_here : (d : Entry) → i < length es → (get_or es i d).stamp ≡ s → settled eqb s p (pairs (drop i es)) ≡ eqb p (get_or es i d).position
-  settled_here d h e = settled_step d h ∙ cond-true _ _ _ (eq-eqb s _ (sym e))
+  step_on : (i : ℕ) (d : Entry) → i < length es → settled eqb s p (pairs (drop i es)) ≡ cond (eqb s (get_or es i d).stamp) (eqb p (get_or es i d).position) (settled eqb s p (pairs (drop (i + 1) es)))
+  step_on i d h = at_drop_more (λ l. settled eqb s p (pairs l)) es i d h
 
-  pub settled_later : (d : Entry) → i < length es → ((get_or es i d).stamp ≡ s → ⊥) → settled eqb s p (pairs (drop i es)) ≡ settled eqb s p (pairs (drop (i + 1) es))
-  settled_later d h n = settled_step d h ∙ cond-false _ _ _ (ne_eqb s _ (λ e. n (sym e)))
+  -- entries with other stamps are passed
+  passed : (i : ℕ) → i ≤ length es → AllWithin Other es 0 i → settled eqb s p (pairs es) ≡ settled eqb s p (pairs (drop i es))
+  passed zero h w = refl
+  passed (suc i) h w =
+      let d : Entry = record { stamp = 0; position = 0 } in
+      let n : suc i ≡ i + 1 = omega arith in
+      passed i (omega arith) (λ k e a b. w k e a (omega arith)) ∙ (step_on i d (omega arith) ∙
+      (cond-false _ _ _ (ne_eqb s _ (λ e. w i d (omega arith) (omega arith) (sym e))) ∙ ap (λ (k : ℕ). settled eqb s p (pairs (drop k es))) (sym n)))
 
-  pub settled_end : length es ≤ i → settled eqb s p (pairs (drop i es)) ≡ false
-  settled_end h = at_drop_all (λ l. settled eqb s p (pairs l)) es i h
+  pub settled_found : (r : Option (Bor Entry)) (b : Bool) →
+      MatchOption r (AllWithin Other es 0 (length es)) (λ e. (e.now.stamp ≡ s) × (i : ℕ) × (i < length es) × HoldsAt (λ f. f ≡ e.now) es i × AllWithin Other es 0 i) →
+      MatchOption r (b ≡ false) (λ e. b ≡ eqb e.now.position p) → b ≡ settled eqb s p (pairs es)
+  settled_found None b w f = f ∙ sym (passed (length es) (omega arith) w ∙ at_drop_all (λ l. settled eqb s p (pairs l)) es (length es) (omega arith))
+  settled_found (Some e) b (q, i, l, h, w) f =
+      let g : get_or es i e.now ≡ e.now = h e.now in
+      f ∙ (nat_eq_equiv.symm e.now.position p ∙ (ap (λ (x : Entry). eqb p x.position) (sym g) ∙
+      sym (passed i (omega arith) w ∙ (step_on i e.now l ∙ cond-true _ _ _ (eq-eqb s _ (sym (ap (λ (x : Entry). x.stamp) g ∙ q)))))))
