@@ -1,13 +1,13 @@
 -- Log entries, one more at a time.
 use Rattle.std.proofs.Common.{◌≡◌, ℕ, zero, suc, ◌+◌, ◌-◌, ◌<◌, ◌≤◌, min, Bool, true, false, cond, eqb, List, [], ◌∷◌, ◌++◌, length, get_or, take, drop, set, Some, None, Option, Bor, sym, refl, ap, ◌∙◌, ⊎_elim, arith}
-use Rattle.std.proofs.lemmas.List.{take_all, take-take, take_more_set, map_more, map_push, drop_more, drop_all, drop-drop, drop-set-lt, get_or-drop, length-take, length-set, set-get_or, take_at, take-map, append-nil, at_drop_more, at_drop_all}
+use Rattle.std.proofs.lemmas.List.{take_all, take-take, take_more_set, map_more, map_push, drop_more, drop_all, drop-drop, drop-set-lt, get_or-drop, length-take, length-set, at_drop_more, at_drop_all}
 use Rattle.std.proofs.lemmas.Bool.{cases_lt, eq-eqb, ne_eqb, cond-true, cond-false}
 use Rattle.std.proofs.lemmas.Cmp.{nat_eq_equiv}
 use Rattle.std.specs.List.{AllWithin, HoldsAt}
 use Rattle.std.specs.Option.{MatchOption}
 use Rattle.checkpoint.specs.declared.Entry.{Entry}
 use Rattle.checkpoint.specs.Values.{pair, pairs}
-use Rattle.checkpoint.specs.Logs.{Entries, listed, replaced, entered, settled, common}
+use Rattle.checkpoint.specs.Logs.{Entries, listed, replaced, settled, common}
 
 module _ {S : Type 0} (eq : S → S → Bool) where
   pub listed_push : (s : S) (es : Entries S) (e : S × ℕ) → listed eq s (es ++ (e ∷ [])) ≡ cond (listed eq s es) true (eq s e.0)
@@ -39,15 +39,6 @@ module _ {S : Type 0} (eq : S → S → Bool) where
           cond b (suc (common eq (xs ++ (e ∷ [])) l)) (common eq (xs ++ (e ∷ [])) l) ≡ cond b (suc (common eq xs l)) (common eq xs l) + cond (listed eq e.0 l) 1 0
       go true i = omega (arith, i)
       go false i = i
-
-  -- where a stamp is not there, nothing is replaced
-  pub replaced_none : (s : S) (p : ℕ) (es : Entries S) → listed eq s es ≡ false → replaced eq s p es ≡ es
-  replaced_none s p [] e = refl
-  replaced_none s p (x ∷ xs) e = go (eq s x.0) (λ f. replaced_none s p xs f) e
-    where
-      go : (b : Bool) → (listed eq s xs ≡ false → replaced eq s p xs ≡ xs) → cond b true (listed eq s xs) ≡ false → cond b (s, p) x ∷ replaced eq s p xs ≡ x ∷ xs
-      go true i e = absurd (let z : ◌≡◌ {A = ℕ} 0 1 = cc in omega arith)
-      go false i e = ap (λ (l : Entries S). x ∷ l) (i e)
 
 -- an entry in front of 8 places, of which the first so many are in use
 pub fronted : {X : Type 0} (xs ys : List X) (e : X) (n m : ℕ) → ys ≡ e ∷ take 7 xs → m ≡ min (n + 1) 8 → take m ys ≡ take 8 (e ∷ take n xs)
@@ -129,35 +120,6 @@ module _ (s p i : ℕ) (t : Bool) (xs ys : List Entry) (d : Entry) (k : Replacin
       same : (t : Bool) → cond t true false ≡ t
       same true = refl
       same false = refl
-
-  pub replaced_all : length xs ≤ i → (t ≡ listed eqb s (pairs xs)) × (pairs ys ≡ replaced eqb s p (pairs xs))
-  replaced_all h =
-      let a : take i xs ≡ xs = take_all i xs h in
-      let b : take i ys ≡ ys = take_all i ys (omega (arith, k.long)) in (
-        k.found ∙ ap (λ (m : List Entry). listed eqb s (pairs m)) a,
-        ap pairs (sym b) ∙ (k.front ∙ ap (λ (m : List Entry). replaced eqb s p (pairs m)) a),
-      )
-
--- the front of 8 places, changed in place, and the entries in use
-pub in_use : {X : Type 0} (xs part : List X) (n m : ℕ) → length xs ≡ 8 → m ≡ min n 8 → length part ≡ m → take n (part ++ drop (m - 0) xs) ≡ part
-in_use xs part n m l e f = ⊎_elim
-    (λ (h : n < 8). take_at part (drop (m - 0) xs) n (omega arith))
-    (λ (h : 8 ≤ n).
-    let z : drop (m - 0) xs ≡ [] = drop_all (m - 0) xs (omega arith) in
-    ap (λ (k : List _). take n (part ++ k)) z ∙ (ap (take n) (append-nil part) ∙ take_all n part (omega arith)))
-    (cases_lt n 8)
-
--- a log write whose stamp is there, and one whose stamp is not
-module _ (s p : ℕ) (xs old part : List Entry) (n : ℕ) (b : Bool) (o : old ≡ take n xs) (t : b ≡ listed eqb s (pairs old)) (r : pairs part ≡ replaced eqb s p (pairs old)) where
-  pub enters_there : b ≡ true → pairs part ≡ entered eqb s p (pairs (take n xs))
-  enters_there e = r ∙ (sym (cond-true (listed eqb s (pairs old)) _ (take 8 ((s, p) ∷ pairs old)) (sym t ∙ e)) ∙ ap (λ (l : List Entry). entered eqb s p (pairs l)) o)
-
-  pub enters_new : b ≡ false → (now was : List Entry) → was ≡ part → now ≡ take 8 (record { stamp = s; position = p } ∷ was) → pairs now ≡ entered eqb s p (pairs (take n xs))
-  enters_new e now was w q =
-      let f : listed eqb s (pairs old) ≡ false = sym t ∙ e in
-      ap pairs q ∙ (sym (take-map pair 8 (record { stamp = s; position = p } ∷ was)) ∙
-      (ap (λ (l : Entries ℕ). take 8 ((s, p) ∷ l)) (ap pairs w ∙ (r ∙ replaced_none eqb s p (pairs old) f)) ∙
-      (sym (cond-false (listed eqb s (pairs old)) (replaced eqb s p (pairs old)) _ f) ∙ ap (λ (l : List Entry). entered eqb s p (pairs l)) o)))
 
 -- the first entry with a stamp, or none, and whether it has the position
 module _ (s p : ℕ) (es : List Entry) where

@@ -4,6 +4,7 @@
 ghost use Rattle.std.specs.Prelude.{◌≡◌, ℕ, ◌<◌, ◌≤◌, max, Bool, true, false, List, [], ◌∷◌, length, take, MatchOption, nat_eq};
 ghost use Rattle.std.specs.Option.{option_map};
 ghost use Rattle.order.specs.Lists.{nth};
+ghost use Rattle.order.specs.Order.{TotalOrder};
 ghost use Rattle.checkpoint.specs.Logs.{Compared, listed, replaced, settled};
 ghost use Rattle.checkpoint.specs.Values.{pair, pairs, entries_of, Put, Met};
 
@@ -18,6 +19,7 @@ pub struct Entry {
 }
 
 // A replication log. Of the 8 places the first ones are in use, as many as the count says.
+// Kept: a log is a plain value of fixed memory, copied whole, and "`Copy` cannot be implemented for this type" where the entries are an ArrayVec.
 #[derive(Clone, Copy)]
 pub struct Log {
     entries: [Entry; 8],
@@ -123,7 +125,8 @@ fn meet(e: Entry, log: &[Entry]) -> Option<u32>
 // Compares two logs: of each stamp in both, the smaller of its two positions; the greatest of these, else 0, together
 // with the number of common stamps.
 pub fn compare(ours: &[Entry], theirs: &[Entry]) -> (u32, usize)
-    ensures { Compared nat_eq (pairs ours.now) (pairs theirs.now) result.0 result.1 }
+    ensures positions { TotalOrder (λ (a b : ℕ). a < b) }
+    ensures compared { Compared nat_eq (pairs ours.now) (pairs theirs.now) result.0 result.1 }
 {
     let mut best = 0;
     let mut common = 0;

@@ -1,7 +1,6 @@
-use Rattle.std.proofs.Common.{◌≡◌, ◌+◌, eqb, List, Some, None, Option, ℕ, max, MatchOption, ◌∙◌, sym, subst, rules, arith}
-use Rattle.std.proofs.lemmas.List.{map_more, take_all}
+use Rattle.std.proofs.Common.{◌≡◌, ◌+◌, eqb, ℕ, max, MatchOption, ◌∙◌, sym, subst, arith}
+use Rattle.std.proofs.lemmas.List.{map_more}
 use Rattle.checkpoint.specs.Logs.{Entries, Compared}
-use Rattle.checkpoint.specs.declared.Entry.{Entry}
 use Rattle.checkpoint.specs.Values.{pair, pairs}
 use Rattle.checkpoint.proofs.Comparing.{compared_more}
 use Rattle.checkpoint.proofs.compare.Goals as goal
@@ -22,6 +21,3 @@ loop-e-preserved c =
       subst (λ (j : Entries ℕ). Compared eqb j l v w) s (compared_more _ l _ n k v w c.loop-e.invariant.0 c.meet.result c.meet.ensures o),
       elim c.match-meet.branch [ in-Some b ↦ omega (arith, b.common-is, c.loop-e.invariant.1) | in_default b ↦ omega (arith, b.common-is, c.loop-e.invariant.1) ],
     )
-
-pub returns : goal.returns
-returns c = subst (λ (k : List Entry). Compared eqb (pairs k) (pairs c.args.theirs.now) c.loop-e.best c.loop-e.common) (take_all c.loop-e.e-index c.args.ours.now c.loop-e-test.false) c.loop-e.invariant.0

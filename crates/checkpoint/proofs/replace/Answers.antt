@@ -1,11 +1,8 @@
 use Rattle.std.proofs.Common.{◌+◌, Bool, List, sym, refl, subst₂}
 use Rattle.checkpoint.specs.declared.Entry.{Entry}
-use Rattle.checkpoint.proofs.Entries.{Replacing, replaces, skips, replaced_all}
+use Rattle.checkpoint.proofs.Entries.{Replacing, replaces, skips}
 use Rattle.checkpoint.proofs.replace.Goals as goal
 use Rattle.checkpoint.proofs.replace.Goals.{then-e-stamp, else-e-stamp}
-
-pub loop-e-init : goal.loop-e-init
-loop-e-init c = record { long = refl; found = refl; front = refl; rest = refl }
 
 pub loop-e-preserved : goal.loop-e-preserved
 loop-e-preserved c =
@@ -20,6 +17,3 @@ loop-e-preserved c =
       | else-e-stamp w ↦ subst₂ (λ (t : Bool) (l : List Entry). Replacing s p (i + 1) t xs l) (sym w.there-is) (sym w.entries-is)
           (skips s p i c.loop-e.there xs ys _ c.loop-e.invariant c.loop-e-test.true w.if-e-stamp.false)
     ]
-
-pub returns : goal.returns
-returns c = let a = replaced_all _ _ c.loop-e.e-index _ c.args.entries.now c.loop-e.entries (record { stamp = 0; position = 0 }) c.loop-e.invariant c.loop-e-test.false in record { there = a.0; after = a.1 }
