@@ -1,135 +1,139 @@
--- Comparing two logs, one entry more at a time.
-use Rattle.std.proofs.Common.{◌≡◌, ℕ, zero, suc, ◌+◌, ◌<◌, ◌≤◌, min, max, Bool, true, false, cond, eqb, ◌⊎◌, [], ◌∷◌, ◌++◌, get_or, sym, refl, ap, ◌∙◌, subst, subst₂, inl, inr, ⊎_elim, arith}
-use Rattle.std.proofs.lemmas.Bool.{cases_lt, eq-eqb, ne_eqb}
+-- Comparing two logs, one entry of the first more at a time.
+use Rattle.std.proofs.Common.{◌≡◌, ℕ, ◌+◌, ◌<◌, ◌≤◌, min, max, Bool, true, false, cond, eqb, ◌⊎◌, List, [], ◌∷◌, ◌++◌, map, filter, Some, None, Option, MatchOption, sym, refl, ap, ◌∙◌, subst, inl, inr, ⊎_elim, arith}
+use Rattle.std.specs.List.{fold, reduce, FoldsTo}
+use Rattle.std.specs.Fn.{Called}
+use Rattle.std.specs.Iterator.{FoldTurn, ReducesItems}
+use Rattle.std.proofs.lemmas.Iterator.{YieldsList}
+use Rattle.std.proofs.lemmas.Iterator.Consumers.{reduce_from_yields_List}
+use Rattle.std.proofs.lemmas.Bool.{cases_lt, eqb-true, eq-eqb, false≢true}
+use denote.Param.Members.{Mut}
 use Rattle.order.specs.Lists.{Mem}
-use Rattle.order.specs.Order.{GreatestOf}
 use Rattle.order.proofs.Lists.{mem_push, mem_front, mem_last}
-use Rattle.checkpoint.specs.declared.Position.{Position}
+use Rattle.checkpoint.specs.declared.Entry.{Entry}
 use Rattle.checkpoint.specs.Logs.{Entries, listed, common, Compared}
-use Rattle.checkpoint.specs.Values.{Top, Smaller, Met}
-use Rattle.checkpoint.proofs.Entries.{listed_push, common_push}
+use Rattle.checkpoint.specs.Values.{pair, pairs, Smaller, Met}
+use Rattle.checkpoint.proofs.Entries.{common_push}
 
--- the greater of two, by the choosing of the greatest
-pub later_is : (a b d : Position) (i : ℕ) → GreatestOf {X = Position} (λ x y. x.at < y.at) (a ∷ b ∷ []) 2 i → (get_or (a ∷ b ∷ []) i d).at ≡ max a.at b.at
-later_is a b d zero g = ⊎_elim (λ (h : a.at < b.at). absurd (g.1 1 d (omega arith) h)) (λ (h : b.at ≤ a.at). omega arith) (cases_lt a.at b.at)
-later_is a b d (suc zero) g = ⊎_elim (λ (h : b.at < a.at). absurd (g.1 0 d (omega arith) h)) (λ (h : a.at ≤ b.at). omega arith) (cases_lt b.at a.at)
-later_is a b d (suc (suc i)) g = absurd (omega (arith, g.0))
+-- calls of a closure that acts as a function, one after the other
+turns : {A F : Type 0} (g : Mut F (A × (A × Unit {0})) A) (h : A → A → A) (f : F) → ((a x b : A) (q : F) → Called g f (a, (x, tt)) b q → (q ≡ f) × (b ≡ h a x)) →
+    (xs : List A) (a : A) (q : F × A) → FoldsTo {P = F × A} (FoldTurn g) (f, a) xs q → FoldsTo (λ p z c. c ≡ h p z) a xs q.1
+turns {A} {F} g h f acts [] a q e = ap (λ (z : F × A). z.1) e
+turns {A} {F} g h f acts (x ∷ xs) a q (c, t, r) =
+    let s = acts a x c.1 c.0 t in
+    (c.1, s.1, turns g h f acts xs c.1 q (subst (λ (w : F). FoldsTo {P = F × A} (FoldTurn g) (w, c.1) xs q) s.0 r))
 
--- the greatest of two kinds together
-pub top_both : (K J L : ℕ → Type 0) (n m : ℕ) → Top K n → Top J m → ((x : ℕ) → L x → K x ⊎ J x) → ((x : ℕ) → K x → L x) → ((x : ℕ) → J x → L x) → Top L (max n m)
-top_both K J L n m k j apart left right = record { reached = go (cases_lt n m) k.reached j.reached; greatest = λ x l. at_most x (apart x l) }
+-- an iterator reduced by such a closure
+pub reduced : {S A F : Type 0} {steps : S → Option A → S → Type 0} {g : Mut F (A × (A × Unit {0})) A} {f : F} (h : A → A → A) (s : S) (r : Option A) (all : List A) → ReducesItems steps g s f r → YieldsList steps (λ x. x) s all →
+    ((a x b : A) (q : F) → Called g f (a, (x, tt)) b q → (q ≡ f) × (b ≡ h a x)) → r ≡ reduce h all
+reduced h s None all d y acts = reduce_from_yields_List h s None d y
+reduced {g = g} {f = f} h s (Some m) all (x, xs, k, d, t) y acts = reduce_from_yields_List h s (Some m) (x, xs, d, turns g h f acts xs x (k, m) t) y
+
+-- the greatest of numbers, one after the other
+picks : (a : ℕ) (ys : List ℕ) → Mem (fold max a ys) (a ∷ ys) × ((m : ℕ) → Mem m (a ∷ ys) → m ≤ fold max a ys)
+picks a [] = (inl refl, λ m k. ⊎_elim (λ e. omega arith) (λ n. absurd n) k)
+picks a (y ∷ ys) = let r = picks (max a y) ys in (reached r.0, all r.1)
   where
-    at_most : (x : ℕ) → K x ⊎ J x → x ≤ max n m
-    at_most x (inl a) = omega (arith, k.greatest x a)
-    at_most x (inr a) = omega (arith, j.greatest x a)
+    reached : (fold max (max a y) ys ≡ max a y) ⊎ Mem (fold max (max a y) ys) ys → Mem (fold max (max a y) ys) (a ∷ y ∷ ys)
+    reached (inl e) = ⊎_elim (λ (h : a < y). inr (inl (omega arith))) (λ (h : y ≤ a). inl (omega arith)) (cases_lt a y)
+    reached (inr k) = inr (inr k)
 
-    go : (n < m) ⊎ (m ≤ n) → (n ≡ 0) ⊎ K n → (m ≡ 0) ⊎ J m → (max n m ≡ 0) ⊎ L (max n m)
-    go (inl h) r (inl z) = absurd (omega arith)
-    go (inl h) r (inr a) = let e : m ≡ max n m = omega arith in inr (subst L e (right m a))
-    go (inr h) (inl z) s = inl (omega arith)
-    go (inr h) (inr a) s = let e : n ≡ max n m = omega arith in inr (subst L e (left n a))
+    all : ((m : ℕ) → Mem m (max a y ∷ ys) → m ≤ fold max (max a y) ys) → (m : ℕ) → Mem m (a ∷ y ∷ ys) → m ≤ fold max (max a y) ys
+    all r m (inl e) = omega (arith, r (max a y) (inl refl))
+    all r m (inr (inl e)) = omega (arith, r (max a y) (inl refl))
+    all r m (inr (inr k)) = r m (inr k)
 
--- a kind of which there is none
-pub top_none : (K : ℕ → Type 0) → ((x : ℕ) → K x → ⊥) → Top K 0
-top_none K n = record { reached = inl refl; greatest = λ x k. absurd (n x k) }
+module _ (e : Entry) where
+  -- the smaller positions of an entry and the entries with its stamp
+  abbrev pub smaller : List Entry → List ℕ
+  smaller log = map (λ (f : Entry). min f.position e.position) (filter (λ (f : Entry). eqb e.stamp f.stamp) log)
 
--- a kind of one
-pub top_one : (v : ℕ) → Top (λ x. x ≡ v) v
-top_one v = record { reached = inr refl; greatest = λ x e. omega arith }
+  abbrev some : List ℕ → Bool
+  some [] = false
+  some (x ∷ xs) = true
 
-parts : {A B : Type 0} (a c : A) (b d : B) → ◌≡◌ {A = A × B} (a, b) (c, d) → (a ≡ c) × (b ≡ d)
-parts {A} {B} a c b d e = (ap (λ (z : A × B). z.0) e, ap (λ (z : A × B). z.1) e)
-
-module _ (e f : ℕ × ℕ) (l : Entries ℕ) (n : ℕ) (t : Bool) (m : Met e l n t) where
-  old : (x : ℕ) → Smaller e l x → Smaller e (l ++ (f ∷ [])) x
-  old x (q, a, b) = (q, mem_front (e.0, q) l (f ∷ []) a, b)
-
-  -- one entry more with the stamp
-  pub met_same : f.0 ≡ e.0 → (v : ℕ) → v ≡ max n (min f.1 e.1) → (u : Bool) → u ≡ true → Met e (l ++ (f ∷ [])) v u
-  met_same s v w u z = record {
-    top = subst (Top (Smaller e (l ++ (f ∷ [])))) (sym w) (top_both (Smaller e l) (λ x. x ≡ min f.1 e.1) _ n _ m.top (top_one (min f.1 e.1)) apart old new);
-    found = z ∙ sym (listed_push eqb e.0 l f ∙ yes (listed eqb e.0 l));
-  }
+  listed_some : (log : List Entry) → listed eqb e.stamp (pairs log) ≡ some (smaller log)
+  listed_some [] = refl
+  listed_some (f ∷ fs) = go (eqb e.stamp f.stamp) (listed_some fs)
     where
-      yes : (b : Bool) → cond b true (eqb e.0 f.0) ≡ true
-      yes true = refl
-      yes false = eq-eqb e.0 f.0 (sym s)
+      go : (b : Bool) → listed eqb e.stamp (pairs fs) ≡ some (smaller fs) →
+          cond b true (listed eqb e.stamp (pairs fs)) ≡ some (map (λ (f : Entry). min f.position e.position) (cond b (f ∷ filter (λ (f : Entry). eqb e.stamp f.stamp) fs) (filter (λ (f : Entry). eqb e.stamp f.stamp) fs)))
+      go true i = refl
+      go false i = i
 
-      apart : (x : ℕ) → Smaller e (l ++ (f ∷ [])) x → Smaller e l x ⊎ (x ≡ min f.1 e.1)
-      apart x (q, a, b) = go (mem_push (e.0, q) l f a)
-        where
-          go : Mem (e.0, q) l ⊎ (◌≡◌ {A = ℕ × ℕ} (e.0, q) f) → Smaller e l x ⊎ (x ≡ min f.1 e.1)
-          go (inl c) = inl (q, c, b)
-          go (inr c) = inr (let d : q ≡ f.1 = ap (λ (z : ℕ × ℕ). z.1) c in omega arith)
-
-      new : (x : ℕ) → x ≡ min f.1 e.1 → Smaller e (l ++ (f ∷ [])) x
-      new x a = (f.1, subst (λ (k : ℕ). Mem (k, f.1) (l ++ (f ∷ []))) s (mem_last l f), omega arith)
-
-  kept : (f.0 ≡ e.0 → ⊥) → Met e (l ++ (f ∷ [])) n t
-  kept s = record { top = record { reached = keep m.top.reached; greatest = λ x k. m.top.greatest x (back x k) }; found = m.found ∙ sym (listed_push eqb e.0 l f ∙ no (listed eqb e.0 l)) }
+  into : (log : List Entry) (m : ℕ) → Smaller (pair e) (pairs log) m → Mem m (smaller log)
+  into [] m (q, a, b) = a
+  into (f ∷ fs) m (q, inl a, b) = rw (eq-eqb e.stamp f.stamp (ap (λ (z : ℕ × ℕ). z.0) a)) (inl (let z : q ≡ f.position = ap (λ (z : ℕ × ℕ). z.1) a in omega arith))
+  into (f ∷ fs) m (q, inr a, b) = go (eqb e.stamp f.stamp) (into fs m (q, a, b))
     where
-      no : (b : Bool) → cond b true (eqb e.0 f.0) ≡ b
-      no true = refl
-      no false = ne_eqb e.0 f.0 (λ z. s (sym z))
+      go : (b : Bool) → Mem m (smaller fs) → Mem m (map (λ (f : Entry). min f.position e.position) (cond b (f ∷ filter (λ (f : Entry). eqb e.stamp f.stamp) fs) (filter (λ (f : Entry). eqb e.stamp f.stamp) fs)))
+      go true i = inr i
+      go false i = i
 
-      back : (x : ℕ) → Smaller e (l ++ (f ∷ [])) x → Smaller e l x
-      back x (q, a, b) = go (mem_push (e.0, q) l f a)
-        where
-          go : Mem (e.0, q) l ⊎ (◌≡◌ {A = ℕ × ℕ} (e.0, q) f) → Smaller e l x
-          go (inl c) = (q, c, b)
-          go (inr c) = absurd (s (ap (λ (z : ℕ × ℕ). z.0) (sym c)))
+  out : (log : List Entry) (m : ℕ) → Mem m (smaller log) → Smaller (pair e) (pairs log) m
+  out [] m = λ k. absurd k
+  out (f ∷ fs) m = go (eqb e.stamp f.stamp) refl (out fs m)
+    where
+      back : Smaller (pair e) (pairs fs) m → Smaller (pair e) (pairs (f ∷ fs)) m
+      back (q, a, b) = (q, inr a, b)
 
-      keep : (n ≡ 0) ⊎ Smaller e l n → (n ≡ 0) ⊎ Smaller e (l ++ (f ∷ [])) n
-      keep (inl z) = inl z
-      keep (inr k) = inr (old n k)
+      go : (b : Bool) → eqb e.stamp f.stamp ≡ b → (Mem m (smaller fs) → Smaller (pair e) (pairs fs) m) →
+          Mem m (map (λ (f : Entry). min f.position e.position) (cond b (f ∷ filter (λ (f : Entry). eqb e.stamp f.stamp) fs) (filter (λ (f : Entry). eqb e.stamp f.stamp) fs))) →
+          Smaller (pair e) (pairs (f ∷ fs)) m
+      go true s i (inl k) = (f.position, inl (ap (λ (z : ℕ). let w : ℕ × ℕ = (z, f.position) in w) (eqb-true e.stamp f.stamp s)), omega arith)
+      go true s i (inr k) = back (i k)
+      go false s i k = back (i k)
 
-  -- one entry more with another stamp
-  pub met_other : (f.0 ≡ e.0 → ⊥) → (v : ℕ) → v ≡ n → (u : Bool) → u ≡ t → Met e (l ++ (f ∷ [])) v u
-  met_other s v w u z = subst₂ (Met e (l ++ (f ∷ []))) (sym w) (sym z) (kept s)
+  pub met : (log : List Entry) → Met (pair e) (pairs log) (reduce max (smaller log))
+  met log = go (smaller log) (listed_some log) (into log) (out log)
+    where
+      go : (ys : List ℕ) → listed eqb e.stamp (pairs log) ≡ some ys → ((m : ℕ) → Smaller (pair e) (pairs log) m → Mem m ys) → ((m : ℕ) → Mem m ys → Smaller (pair e) (pairs log) m) →
+          Met (pair e) (pairs log) (reduce max ys)
+      go [] a i o = a
+      go (y ∷ ys) a i o = let r = picks y ys in (a, o (fold max y ys) r.0, λ m s. r.1 m (i m s))
 
--- the smaller positions of two logs
-abbrev Shared : Entries ℕ → Entries ℕ → ℕ → Type 0
-Shared k l n = (s : ℕ) × (p : ℕ) × (q : ℕ) × Mem (s, p) k × Mem (s, q) l × (n ≡ min p q)
-
-compared_top : (k l : Entries ℕ) (n c : ℕ) → Compared eqb k l n c → Top (Shared k l) n
-compared_top k l n c r = record { reached = r.reached; greatest = λ x (s, p, q, a, b, e). subst (λ (z : ℕ). z ≤ n) (sym e) (r.greatest s p q a b) }
-
-top_compared : (k l : Entries ℕ) (n c : ℕ) → Top (Shared k l) n → c ≡ common eqb k l → Compared eqb k l n c
-top_compared k l n c t e = record { reached = t.reached; greatest = λ s p q a b. t.greatest (min p q) (s, p, q, a, b, refl); counted = e }
+-- an entry's stamp is listed
+mem_listed : (s q : ℕ) (l : Entries ℕ) → Mem (s, q) l → listed eqb s l ≡ true
+mem_listed s q [] m = absurd m
+mem_listed s q (x ∷ xs) (inl a) = rw (eq-eqb s x.0 (ap (λ (z : ℕ × ℕ). z.0) a)) refl
+mem_listed s q (x ∷ xs) (inr m) = go (eqb s x.0) (mem_listed s q xs m)
+  where
+    go : (b : Bool) → listed eqb s xs ≡ true → cond b true (listed eqb s xs) ≡ true
+    go true i = refl
+    go false i = i
 
 -- one entry more of the first log
-pub compared_more : (k l : Entries ℕ) (e : ℕ × ℕ) (n m c v w : ℕ) (t : Bool) → Compared eqb k l n c → Met e l m t → v ≡ max n m → w ≡ c + cond t 1 0 → Compared eqb (k ++ (e ∷ [])) l v w
-compared_more k l e n m c v w t r o a b =
-    top_compared (k ++ (e ∷ [])) l v w
-    (subst (Top (Shared (k ++ (e ∷ [])) l)) (sym a) (top_both (Shared k l) (Smaller e l) _ n m (compared_top k l n c r) o.top apart left right))
-    (b ∙ ((λ i. r.counted i + cond (o.found i) 1 0) ∙ sym (common_push eqb k e l)))
-  where
-    left : (x : ℕ) → Shared k l x → Shared (k ++ (e ∷ [])) l x
-    left x (s, p, q, a, b, c) = (s, p, q, mem_front (s, p) k (e ∷ []) a, b, c)
+module _ (k l : Entries ℕ) (e : ℕ × ℕ) (n c v w : ℕ) (r : Compared eqb k l n c) where
+  abbrev Reached : Entries ℕ → ℕ → Type 0
+  Reached j x = (x ≡ 0) ⊎ ((s : ℕ) × (p : ℕ) × (q : ℕ) × Mem (s, p) j × Mem (s, q) l × (x ≡ min p q))
 
-    right : (x : ℕ) → Smaller e l x → Shared (k ++ (e ∷ [])) l x
-    right x (q, a, b) = (e.0, e.1, q, mem_last k e, a, b)
+  was : Reached k n → Reached (k ++ (e ∷ [])) n
+  was (inl z) = inl z
+  was (inr (s, p, q, a, b, f)) = inr (s, p, q, mem_front (s, p) k (e ∷ []) a, b, f)
 
-    apart : (x : ℕ) → Shared (k ++ (e ∷ [])) l x → Shared k l x ⊎ Smaller e l x
-    apart x (s, p, q, a, b, c) = go (mem_push (s, p) k e a)
-      where
-        go : Mem (s, p) k ⊎ (◌≡◌ {A = ℕ × ℕ} (s, p) e) → Shared k l x ⊎ Smaller e l x
-        go (inl d) = inl (s, p, q, d, b, c)
-        go (inr d) =
-            let y : s ≡ e.0 = ap (λ (z : ℕ × ℕ). z.0) d in
-            let z : p ≡ e.1 = ap (λ (z : ℕ × ℕ). z.1) d in
-            inr (q, subst (λ (u : ℕ). Mem (u, q) l) y b, subst (λ (u : ℕ). x ≡ min u q) z c)
+  counts : (b : Bool) → listed eqb e.0 l ≡ b → w ≡ c + cond b 1 0 → w ≡ common eqb (k ++ (e ∷ [])) l
+  counts b t f = f ∙ ((λ i. r.counted i + cond (sym t i) 1 0) ∙ sym (common_push eqb k e l))
 
--- no entries yet
-pub met_none : (e : ℕ × ℕ) → Met e [] 0 false
-met_none e = record { top = top_none (Smaller e []) (λ x (q, a, b). a); found = refl }
-
-pub compared_none : (l : Entries ℕ) → Compared eqb [] l 0 0
-compared_none l = record { reached = inl refl; greatest = λ s p q a b. absurd a; counted = refl }
-
--- one more is counted, or none
-pub counted_there : (b : Bool) (w c : ℕ) → b ≡ true → w ≡ c + 1 → w ≡ c + cond b 1 0
-counted_there b w c e f = f ∙ ap (λ (t : Bool). c + cond t 1 0) (sym e)
-
-pub counted_not : (b : Bool) (w c : ℕ) → b ≡ false → w ≡ c → w ≡ c + cond b 1 0
-counted_not b w c e f = let z : c ≡ c + 0 = omega arith in f ∙ (z ∙ ap (λ (t : Bool). c + cond t 1 0) (sym e))
+  pub compared_more : (o : Option ℕ) → Met e l o → MatchOption o ((v ≡ n) × (w ≡ c)) (λ m. (v ≡ max n m) × (w ≡ c + 1)) → Compared eqb (k ++ (e ∷ [])) l v w
+  compared_more None m (x, y) = record {
+    reached = subst (Reached (k ++ (e ∷ []))) (sym x) (was r.reached);
+    greatest = λ s p q a b. ⊎_elim
+        (λ (h : Mem (s, p) k). omega (arith, r.greatest s p q h b))
+        (λ (h : ◌≡◌ {A = ℕ × ℕ} (s, p) e).
+        let z : listed eqb e.0 l ≡ true = mem_listed e.0 q l (subst (λ (t : ℕ). Mem (t, q) l) (ap (λ (z : ℕ × ℕ). z.0) h) b) in
+        absurd (false≢true (sym m ∙ z)))
+        (mem_push (s, p) k e a);
+    counted = counts false m (omega arith);
+  }
+  compared_more (Some m) (t, (q, a, b), g) (x, y) = record {
+    reached = ⊎_elim
+        (λ (h : n < m). inr (e.0, e.1, q, mem_last k e, a, omega arith))
+        (λ (h : m ≤ n). subst (Reached (k ++ (e ∷ []))) (omega arith) (was r.reached))
+        (cases_lt n m);
+    greatest = λ s p i c d. ⊎_elim
+        (λ (h : Mem (s, p) k). omega (arith, r.greatest s p i h d))
+        (λ (h : ◌≡◌ {A = ℕ × ℕ} (s, p) e).
+        let z : p ≡ e.1 = ap (λ (z : ℕ × ℕ). z.1) h in
+        omega (arith, g (min e.1 i) (i, subst (λ (t : ℕ). Mem (t, i) l) (ap (λ (z : ℕ × ℕ). z.0) h) d, refl)))
+        (mem_push (s, p) k e c);
+    counted = counts true t y;
+  }

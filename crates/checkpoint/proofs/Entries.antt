@@ -1,10 +1,13 @@
 -- Log entries, one more at a time.
-use Rattle.std.proofs.Common.{◌≡◌, ℕ, suc, ◌+◌, ◌-◌, ◌<◌, ◌≤◌, min, Bool, true, false, cond, eqb, List, [], ◌∷◌, ◌++◌, length, get_or, take, drop, set, sym, refl, ap, ◌∙◌, ⊎_elim, arith}
-use Rattle.std.proofs.lemmas.List.{take_all, take-take, take_more_set, map_more, map_push, drop_more, drop_all, drop-drop, drop-set-lt, get_or-drop, length-take, length-set, set-get_or, take_at, take-map, append-nil, at_drop_more, at_drop_all}
+use Rattle.std.proofs.Common.{◌≡◌, ℕ, zero, suc, ◌+◌, ◌-◌, ◌<◌, ◌≤◌, min, Bool, true, false, cond, eqb, List, [], ◌∷◌, ◌++◌, length, get_or, take, drop, set, Some, None, Option, Bor, sym, refl, ap, ◌∙◌, ⊎_elim, arith}
+use Rattle.std.proofs.lemmas.List.{take_all, take-take, take_more_set, map_more, map_push, drop_more, drop_all, drop-drop, drop-set-lt, get_or-drop, length-take, length-set, at_drop_more, at_drop_all}
 use Rattle.std.proofs.lemmas.Bool.{cases_lt, eq-eqb, ne_eqb, cond-true, cond-false}
+use Rattle.std.proofs.lemmas.Cmp.{nat_eq_equiv}
+use Rattle.std.specs.List.{AllWithin, HoldsAt}
+use Rattle.std.specs.Option.{MatchOption}
 use Rattle.checkpoint.specs.declared.Entry.{Entry}
 use Rattle.checkpoint.specs.Values.{pair, pairs}
-use Rattle.checkpoint.specs.Logs.{Entries, listed, replaced, entered, settled, common}
+use Rattle.checkpoint.specs.Logs.{Entries, listed, replaced, settled, common}
 
 module _ {S : Type 0} (eq : S → S → Bool) where
   pub listed_push : (s : S) (es : Entries S) (e : S × ℕ) → listed eq s (es ++ (e ∷ [])) ≡ cond (listed eq s es) true (eq s e.0)
@@ -36,15 +39,6 @@ module _ {S : Type 0} (eq : S → S → Bool) where
           cond b (suc (common eq (xs ++ (e ∷ [])) l)) (common eq (xs ++ (e ∷ [])) l) ≡ cond b (suc (common eq xs l)) (common eq xs l) + cond (listed eq e.0 l) 1 0
       go true i = omega (arith, i)
       go false i = i
-
-  -- where a stamp is not there, nothing is replaced
-  pub replaced_none : (s : S) (p : ℕ) (es : Entries S) → listed eq s es ≡ false → replaced eq s p es ≡ es
-  replaced_none s p [] e = refl
-  replaced_none s p (x ∷ xs) e = go (eq s x.0) (λ f. replaced_none s p xs f) e
-    where
-      go : (b : Bool) → (listed eq s xs ≡ false → replaced eq s p xs ≡ xs) → cond b true (listed eq s xs) ≡ false → cond b (s, p) x ∷ replaced eq s p xs ≡ x ∷ xs
-      go true i e = absurd (let z : ◌≡◌ {A = ℕ} 0 1 = cc in omega arith)
-      go false i e = ap (λ (l : Entries S). x ∷ l) (i e)
 
 -- an entry in front of 8 places, of which the first so many are in use
 pub fronted : {X : Type 0} (xs ys : List X) (e : X) (n m : ℕ) → ys ≡ e ∷ take 7 xs → m ≡ min (n + 1) 8 → take m ys ≡ take 8 (e ∷ take n xs)
@@ -112,62 +106,43 @@ module _ (s p i : ℕ) (t : Bool) (xs ys : List Entry) (d : Entry) (k : Replacin
       any true = refl
       any false = refl
 
-  pub skips : i < length xs → ((get_or ys i d).stamp ≡ s → ⊥) → Replacing s p (i + 1) t xs ys
+  pub skips : i < length xs → ((get_or ys i d).stamp ≡ s → ⊥) → Replacing s p (i + 1) t xs (set ys i (get_or ys i d))
   skips h n =
       let a : get_or ys i d ≡ get_or xs i d = same_at s p i xs ys d h k.long k.rest in
       let q : eqb s (get_or xs i d).stamp ≡ false = ne_eqb s _ (λ z. n (ap (λ (z : Entry). z.stamp) a ∙ sym z)) in
-      let u : set ys i (get_or ys i d) ≡ ys = set-get_or ys i d in
       record {
-        long = k.long;
+        long = length-set ys i (get_or ys i d) ∙ k.long;
         found = sym (ap (λ (b : Bool). cond t true b) q ∙ same t) ∙ more_there s p i xs ys d h k.long k.rest t k.found;
-        front = ap (λ (m : List Entry). pairs (take (i + 1) m)) (sym u) ∙
-            more_pairs s p i xs ys d h k.long k.rest (get_or ys i d) k.front (ap pair a ∙ ap (λ (b : Bool). cond b (s, p) (pair (get_or xs i d))) (sym q));
-        rest = ap (drop (i + 1)) (sym u) ∙ more_drop s p i xs ys d h k.long k.rest (get_or ys i d);
+        front = more_pairs s p i xs ys d h k.long k.rest (get_or ys i d) k.front (ap pair a ∙ ap (λ (b : Bool). cond b (s, p) (pair (get_or xs i d))) (sym q));
+        rest = more_drop s p i xs ys d h k.long k.rest (get_or ys i d);
       }
     where
       same : (t : Bool) → cond t true false ≡ t
       same true = refl
       same false = refl
 
-  pub replaced_all : length xs ≤ i → (t ≡ listed eqb s (pairs xs)) × (pairs ys ≡ replaced eqb s p (pairs xs))
-  replaced_all h =
-      let a : take i xs ≡ xs = take_all i xs h in
-      let b : take i ys ≡ ys = take_all i ys (omega (arith, k.long)) in (
-        k.found ∙ ap (λ (m : List Entry). listed eqb s (pairs m)) a,
-        ap pairs (sym b) ∙ (k.front ∙ ap (λ (m : List Entry). replaced eqb s p (pairs m)) a),
-      )
+-- the first entry with a stamp, or none, and whether it has the position
+module _ (s p : ℕ) (es : List Entry) where
+  abbrev Other : Entry → Type 0
+  Other e = e.stamp ≡ s → ⊥
 
--- the front of 8 places, changed in place, and the entries in use
-pub in_use : {X : Type 0} (xs part : List X) (n m : ℕ) → length xs ≡ 8 → m ≡ min n 8 → length part ≡ m → take n (part ++ drop (m - 0) xs) ≡ part
-in_use xs part n m l e f = ⊎_elim
-    (λ (h : n < 8). take_at part (drop (m - 0) xs) n (omega arith))
-    (λ (h : 8 ≤ n).
-    let z : drop (m - 0) xs ≡ [] = drop_all (m - 0) xs (omega arith) in
-    ap (λ (k : List _). take n (part ++ k)) z ∙ (ap (take n) (append-nil part) ∙ take_all n part (omega arith)))
-    (cases_lt n 8)
+  step_on : (i : ℕ) (d : Entry) → i < length es → settled eqb s p (pairs (drop i es)) ≡ cond (eqb s (get_or es i d).stamp) (eqb p (get_or es i d).position) (settled eqb s p (pairs (drop (i + 1) es)))
+  step_on i d h = at_drop_more (λ l. settled eqb s p (pairs l)) es i d h
 
--- a log write whose stamp is there, and one whose stamp is not
-module _ (s p : ℕ) (xs old part : List Entry) (n : ℕ) (b : Bool) (o : old ≡ take n xs) (t : b ≡ listed eqb s (pairs old)) (r : pairs part ≡ replaced eqb s p (pairs old)) where
-  pub enters_there : b ≡ true → pairs part ≡ entered eqb s p (pairs (take n xs))
-  enters_there e = r ∙ (sym (cond-true (listed eqb s (pairs old)) _ (take 8 ((s, p) ∷ pairs old)) (sym t ∙ e)) ∙ ap (λ (l : List Entry). entered eqb s p (pairs l)) o)
+  -- entries with other stamps are passed
+  passed : (i : ℕ) → i ≤ length es → AllWithin Other es 0 i → settled eqb s p (pairs es) ≡ settled eqb s p (pairs (drop i es))
+  passed zero h w = refl
+  passed (suc i) h w =
+      let d : Entry = record { stamp = 0; position = 0 } in
+      let n : suc i ≡ i + 1 = omega arith in
+      passed i (omega arith) (λ k e a b. w k e a (omega arith)) ∙ (step_on i d (omega arith) ∙
+      (cond-false _ _ _ (ne_eqb s _ (λ e. w i d (omega arith) (omega arith) (sym e))) ∙ ap (λ (k : ℕ). settled eqb s p (pairs (drop k es))) (sym n)))
 
-  pub enters_new : b ≡ false → (now was : List Entry) → was ≡ part → now ≡ take 8 (record { stamp = s; position = p } ∷ was) → pairs now ≡ entered eqb s p (pairs (take n xs))
-  enters_new e now was w q =
-      let f : listed eqb s (pairs old) ≡ false = sym t ∙ e in
-      ap pairs q ∙ (sym (take-map pair 8 (record { stamp = s; position = p } ∷ was)) ∙
-      (ap (λ (l : Entries ℕ). take 8 ((s, p) ∷ l)) (ap pairs w ∙ (r ∙ replaced_none eqb s p (pairs old) f)) ∙
-      (sym (cond-false (listed eqb s (pairs old)) (replaced eqb s p (pairs old)) _ f) ∙ ap (λ (l : List Entry). entered eqb s p (pairs l)) o)))
-
--- a search for a stamp with its position: the entry that has the stamp, one that has not, and the end
-module _ (s p i : ℕ) (es : List Entry) where
-  settled_step : (d : Entry) → i < length es → settled eqb s p (pairs (drop i es)) ≡ cond (eqb s (get_or es i d).stamp) (eqb p (get_or es i d).position) (settled eqb s p (pairs (drop (i + 1) es)))
-  settled_step d h = at_drop_more (λ l. settled eqb s p (pairs l)) es i d h
-
-  pub settled_here : (d : Entry) → i < length es → (get_or es i d).stamp ≡ s → settled eqb s p (pairs (drop i es)) ≡ eqb p (get_or es i d).position
-  settled_here d h e = settled_step d h ∙ cond-true _ _ _ (eq-eqb s _ (sym e))
-
-  pub settled_later : (d : Entry) → i < length es → ((get_or es i d).stamp ≡ s → ⊥) → settled eqb s p (pairs (drop i es)) ≡ settled eqb s p (pairs (drop (i + 1) es))
-  settled_later d h n = settled_step d h ∙ cond-false _ _ _ (ne_eqb s _ (λ e. n (sym e)))
-
-  pub settled_end : length es ≤ i → settled eqb s p (pairs (drop i es)) ≡ false
-  settled_end h = at_drop_all (λ l. settled eqb s p (pairs l)) es i h
+  pub settled_found : (r : Option (Bor Entry)) (b : Bool) →
+      MatchOption r (AllWithin Other es 0 (length es)) (λ e. (e.now.stamp ≡ s) × (i : ℕ) × (i < length es) × HoldsAt (λ f. f ≡ e.now) es i × AllWithin Other es 0 i) →
+      MatchOption r (b ≡ false) (λ e. b ≡ eqb e.now.position p) → b ≡ settled eqb s p (pairs es)
+  settled_found None b w f = f ∙ sym (passed (length es) (omega arith) w ∙ at_drop_all (λ l. settled eqb s p (pairs l)) es (length es) (omega arith))
+  settled_found (Some e) b (q, i, l, h, w) f =
+      let g : get_or es i e.now ≡ e.now = h e.now in
+      f ∙ (nat_eq_equiv.symm e.now.position p ∙ (ap (λ (x : Entry). eqb p x.position) (sym g) ∙
+      sym (passed i (omega arith) w ∙ (step_on i e.now l ∙ cond-true _ _ _ (eq-eqb s _ (sym (ap (λ (x : Entry). x.stamp) g ∙ q)))))))

@@ -1,3 +1,3 @@
 pub mod Entries
-pub mod Comparing
 pub mod Logs
+pub mod Comparing

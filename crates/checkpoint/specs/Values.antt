@@ -1,5 +1,5 @@
 -- What the code's logs say in the words of the model.
-use Rattle.std.specs.Prelude.{◌≡◌, ℕ, ◌≤◌, min, Bool, ◌⊎◌, List, map, take, Ok, Err, Result, ◌≢◌, nat_eq}
+use Rattle.std.specs.Prelude.{◌≡◌, ℕ, ◌≤◌, min, true, false, List, map, take, Some, None, Option, Ok, Err, Result, ◌≢◌, nat_eq}
 use Rattle.order.specs.Lists.{Mem}
 use Rattle.decline.specs.declared.Fault.{Fault}
 use Rattle.decline.specs.Faults.{bare}
@@ -23,16 +23,11 @@ abbrev pub Put : Log → ℕ → ℕ → Result Unit Fault → Log → Type 0
 Put l s p (Ok x) m = (s ≢ 0) × (pairs (entries_of m) ≡ entered nat_eq s p (pairs (entries_of l)))
 Put l s p (Err e) m = (s ≡ 0) × (e ≡ bare 15) × (m ≡ l)
 
--- n is the greatest number of a kind, or 0 where there is none
-pub record Top (Kind : ℕ → Type 0) (n : ℕ) : Type 0 where
-  pub reached : (n ≡ 0) ⊎ Kind n
-  pub greatest : (m : ℕ) → Kind m → m ≤ n
-
 -- the smaller positions that an entry and the entries of a log with its stamp give
 abbrev pub Smaller : ℕ × ℕ → Entries ℕ → ℕ → Type 0
 Smaller e l m = (q : ℕ) × Mem (e.0, q) l × (m ≡ min e.1 q)
 
--- an entry against a log: the greatest of those, and whether its stamp is there
-pub record Met (e : ℕ × ℕ) (l : Entries ℕ) (n : ℕ) (there : Bool) : Type 0 where
-  pub top : Top (Smaller e l) n
-  pub found : there ≡ listed nat_eq e.0 l
+-- an entry against a log: the greatest of those, or none where its stamp is not there
+abbrev pub Met : ℕ × ℕ → Entries ℕ → Option ℕ → Type 0
+Met e l None = listed nat_eq e.0 l ≡ false
+Met e l (Some n) = (listed nat_eq e.0 l ≡ true) × Smaller e l n × ((m : ℕ) → Smaller e l m → m ≤ n)

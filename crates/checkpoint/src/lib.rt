@@ -4,13 +4,12 @@
 ghost use Rattle.std.specs.Prelude.{◌≡◌, ℕ, ◌<◌, ◌≤◌, max, Bool, true, false, List, [], ◌∷◌, length, take, MatchOption, nat_eq};
 ghost use Rattle.std.specs.Option.{option_map};
 ghost use Rattle.order.specs.Lists.{nth};
+ghost use Rattle.order.specs.Order.{TotalOrder};
 ghost use Rattle.checkpoint.specs.Logs.{Compared, listed, replaced, settled};
 ghost use Rattle.checkpoint.specs.Values.{pair, pairs, entries_of, Put, Met};
-ghost use Rattle.std.proofs.Common.{rules};
 
 use decline::{Decline, Fault};
-use order::{Ranked, greatest};
-use std::cmp::Ordering;
+use order::greatest;
 
 // An entry of a log: the stamp of a replication, never 0, and the position that it had come to.
 #[derive(Clone, Copy, PartialEq, Eq, Debug)]
@@ -20,6 +19,7 @@ pub struct Entry {
 }
 
 // A replication log. Of the 8 places the first ones are in use, as many as the count says.
+// Kept: a log is a plain value of fixed memory, copied whole, and "`Copy` cannot be implemented for this type" where the entries are an ArrayVec.
 #[derive(Clone, Copy)]
 pub struct Log {
     entries: [Entry; 8],
@@ -52,19 +52,15 @@ impl Log {
     pub fn entry(&self, i: usize) -> Option<Entry>
         ensures { result ≡ nth (entries_of self.now) i }
     {
-        let entries = self.entries();
-        if i < entries.len() {
-            Some(entries[i])
-        } else {
-            None
-        }
+        self.entries().get(i).copied()
     }
 
     // Whether a stamp is there with this position already, so that writing it would change nothing.
     pub fn holds(&self, stamp: u64, position: u32) -> bool
         ensures { result ≡ settled nat_eq stamp position (pairs (entries_of self.now)) }
     {
-        settled_in(self.entries(), stamp, position)
+        let found = self.entries().iter().find(|e| e.stamp == stamp);
+        found.is_some_and(|e| e.position == position)
     }
 
     // An entry goes in front, and a ninth is dropped.
@@ -92,94 +88,53 @@ impl Log {
     }
 }
 
-// Whether the first entry with a stamp has this position.
-fn settled_in(entries: &[Entry], stamp: u64, position: u32) -> bool
-    ensures { result ≡ settled nat_eq stamp position (pairs entries.now) }
-{
-    for e in entries {
-        if e.stamp == stamp {
-            return position == e.position;
-        }
-    }
-    false
-}
-
 // Replaces the position of a stamp, and says whether it is there.
 fn replace(entries: &mut [Entry], stamp: u64, position: u32) -> bool
     ensures there { result ≡ listed nat_eq stamp (pairs entries.old) }
     ensures after { pairs entries.new ≡ replaced nat_eq stamp position (pairs entries.old) }
 {
     let mut there = false;
-    for i in 0..entries.len() {
-        if entries[i].stamp == stamp {
-            entries[i].position = position;
+    for e in entries.iter_mut() {
+        if e.stamp == stamp {
+            e.position = position;
             there = true;
         }
     }
     there
 }
 
-// A position that two logs share.
-#[derive(Clone, Copy)]
-struct Position {
-    at: u32,
-}
-
-impl Ranked for Position {
-    ghost less = { λ a b. a.at < b.at };
-
-    ghost total = { Prim.search rules };
-
-    fn compare(&self, other: &Position) -> Ordering {
-        self.at.cmp(&other.at)
-    }
-}
-
 // The greater of two positions.
-fn later(a: Position, b: Position) -> Position
-    ensures { result.at ≡ max a.at b.at }
+fn later(a: u32, b: u32) -> u32
+    ensures { result ≡ max a b }
 {
     let both = [a, b];
-    match greatest(&both) {
-        Some(i) => both[i],
-        None => a,
-    }
+    greatest(&both).map_or(a, |i| both[i])
 }
 
-// Of an entry and the entries of another log with its stamp: the greatest of the smaller positions, else 0; and whether
-// there are any.
-fn meet(e: Entry, log: &[Entry]) -> (Position, bool)
-    ensures { Met (pair e) (pairs log.now) result.0.at result.1 }
+// Of an entry and the entries of another log with its stamp: the greatest of the smaller positions; none where no entry
+// has its stamp.
+fn meet(e: Entry, log: &[Entry]) -> Option<u32>
+    ensures { Met (pair e) (pairs log.now) result }
 {
-    let mut best = Position { at: 0 };
-    let mut there = false;
-    for f in log {
-        if f.stamp == e.stamp {
-            best = later(
-                best,
-                Position {
-                    at: f.position.min(e.position),
-                },
-            );
-            there = true;
-        }
-    }
-    (best, there)
+    log.iter()
+        .filter(|f| e.stamp == f.stamp)
+        .map(|f| f.position.min(e.position))
+        .reduce(later)
 }
 
 // Compares two logs: of each stamp in both, the smaller of its two positions; the greatest of these, else 0, together
 // with the number of common stamps.
 pub fn compare(ours: &[Entry], theirs: &[Entry]) -> (u32, usize)
-    ensures { Compared nat_eq (pairs ours.now) (pairs theirs.now) result.0 result.1 }
+    ensures positions { TotalOrder (λ (a b : ℕ). a < b) }
+    ensures compared { Compared nat_eq (pairs ours.now) (pairs theirs.now) result.0 result.1 }
 {
-    let mut best = Position { at: 0 };
+    let mut best = 0;
     let mut common = 0;
     for e in ours {
-        let (position, there) = meet(*e, theirs);
-        best = later(best, position);
-        if there {
+        if let Some(position) = meet(*e, theirs) {
+            best = later(best, position);
             common += 1;
         }
     }
-    (best.at, common)
+    (best, common)
 }

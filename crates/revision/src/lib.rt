@@ -28,8 +28,8 @@ pub fn id_bytes(bytes: &[u8]) -> bool
 }
 
 impl DocumentId {
-    // Kept: a named function in place of TryFrom<&[u8]>, under which callers would have to cut each array literal to a slice.
     // Reads an id of 1 to 16 bytes, each 0x21 to 0x7e; anything else is declined 11.
+    // Kept: a named function in place of TryFrom<&[u8]>, under which callers would have to cut each array literal to a slice.
     pub fn read(bytes: &[u8]) -> Result<DocumentId, Fault>
         ensures { IdRead bytes.now result }
     {

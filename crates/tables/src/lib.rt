@@ -117,7 +117,7 @@ impl Content {
         ensures { Decides result (content_of self.now ≡ content (mark_number mark) body.now) }
     {
         let n = (self.length as usize).min(96);
-        self.mark.number() == mark.number() && &self.body[0..n] == body
+        self.mark == mark && &self.body[0..n] == body
     }
 }
 
@@ -602,7 +602,7 @@ impl Tables {
     {
         let id = DocumentId::read(id)?;
         let n = path_length(generation, tags)?;
-        let mark = Mark::read(mark)?;
+        let mark = Mark::try_from(mark)?;
         if body.len() > 96 {
             return Err(Fault::from(Decline::Body));
         }

@@ -4,4 +4,4 @@ use Rattle.checkpoint.specs.Values.{pairs}
 use Rattle.checkpoint.proofs.compare.Given as goal
 
 abbrev pub invariant-loop-e : goal.invariant-loop-e
-invariant-loop-e l = Compared eqb (pairs (take l.e-index l.ours)) (pairs l.theirs) l.best.at l.common × (l.common ≤ l.e-index)
+invariant-loop-e l = Compared eqb (pairs (take l.e-index l.ours)) (pairs l.theirs) l.best l.common × (l.common ≤ l.e-index)

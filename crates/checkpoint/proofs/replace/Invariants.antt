@@ -1,5 +1,5 @@
 use Rattle.checkpoint.proofs.Entries.{Replacing}
 use Rattle.checkpoint.proofs.replace.Given as goal
 
-abbrev pub invariant-loop-i : goal.invariant-loop-i
-invariant-loop-i l = Replacing l.stamp l.position l.i l.there l.initial.entries l.entries
+abbrev pub invariant-loop-e : goal.invariant-loop-e
+invariant-loop-e l = Replacing l.stamp l.position l.e-index l.there l.initial.entries l.entries

@@ -5,8 +5,8 @@ use Rattle.tables.proofs.Contents.{content_decides}
 use Rattle.tables.proofs.Content.is.Goals as goal
 use Rattle.std.proofs.lemmas.Bool.Decides.{Decides-eqb}
 
-pub returns-then-number : goal.returns-then-number
-returns-then-number c =
+pub returns-then-eq : goal.returns-then-eq
+returns-then-eq c =
     let len : length c.args.self.now.body ≡ 96 = search rules in
     let same : mark_number c.args.self.now.mark ≡ mark_number c.args.mark = search rules in
-    content_decides _ _ c.min-n.result c.args.self.now.length c.args.self.now.body c.args.body.now _ c.eq.result same len c.min-n.ensures refl (slice_eq-Decides Decides-eqb _ _ _ c.eq.ensures)
+    content_decides _ _ c.min-n.result c.args.self.now.length c.args.self.now.body c.args.body.now _ c.eq-then-eq.result same len c.min-n.ensures refl (slice_eq-Decides Decides-eqb _ _ _ c.eq-then-eq.ensures)
