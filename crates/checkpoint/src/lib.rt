@@ -55,48 +55,48 @@ impl Log {
         self.entries().get(i).copied()
     }
 
-    // Whether a stamp is there with this position already, so that writing it would change nothing.
-    pub fn holds(&self, stamp: u64, position: u32) -> bool
-        ensures { result ≡ settled nat_eq stamp position (pairs (entries_of self.now)) }
+    // Whether an entry's stamp is there with its position already, so that writing it would change nothing.
+    pub fn holds(&self, entry: Entry) -> bool
+        ensures { result ≡ settled nat_eq entry.stamp entry.position (pairs (entries_of self.now)) }
     {
-        let found = self.entries().iter().find(|e| e.stamp == stamp);
-        found.is_some_and(|e| e.position == position)
+        let found = self.entries().iter().find(|e| e.stamp == entry.stamp);
+        found.is_some_and(|e| e.position == entry.position)
     }
 
     // An entry goes in front, and a ninth is dropped.
-    fn push_front(&mut self, e: Entry)
-        ensures { entries_of self.new ≡ take 8 (e ∷ entries_of self.old) }
+    fn push_front(&mut self, entry: Entry)
+        ensures { entries_of self.new ≡ take 8 (entry ∷ entries_of self.old) }
     {
         self.entries.rotate_right(1);
-        self.entries[0] = e;
+        self.entries[0] = entry;
         self.count = self.count.saturating_add(1).min(8);
     }
 
     // A log write: the position of a stamp that is there is replaced; otherwise the entry goes in front, and a ninth is
     // dropped. Stamp 0 is declined 15.
-    pub fn put(&mut self, stamp: u64, position: u32) -> Result<(), Fault>
-        ensures { Put self.old stamp position result self.new }
+    pub fn put(&mut self, entry: Entry) -> Result<(), Fault>
+        ensures { Put self.old entry.stamp entry.position result self.new }
     {
-        if stamp == 0 {
+        if entry.stamp == 0 {
             return Err(Fault::from(Decline::Stamp));
         }
         let n = self.count.min(8);
-        if !replace(&mut self.entries[0..n], stamp, position) {
-            self.push_front(Entry { stamp, position });
+        if !replace(&mut self.entries[0..n], entry) {
+            self.push_front(entry);
         }
         Ok(())
     }
 }
 
 // Replaces the position of a stamp, and says whether it is there.
-fn replace(entries: &mut [Entry], stamp: u64, position: u32) -> bool
-    ensures there { result ≡ listed nat_eq stamp (pairs entries.old) }
-    ensures after { pairs entries.new ≡ replaced nat_eq stamp position (pairs entries.old) }
+fn replace(entries: &mut [Entry], entry: Entry) -> bool
+    ensures there { result ≡ listed nat_eq entry.stamp (pairs entries.old) }
+    ensures after { pairs entries.new ≡ replaced nat_eq entry.stamp entry.position (pairs entries.old) }
 {
     let mut there = false;
     for e in entries.iter_mut() {
-        if e.stamp == stamp {
-            e.position = position;
+        if e.stamp == entry.stamp {
+            e.position = entry.position;
             there = true;
         }
     }

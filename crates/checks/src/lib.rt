@@ -77,14 +77,14 @@ mod tests {
         assert_eq!(rt; compare(&ours, &[entry(9, 15), entry(5, 12)]), (15, 2));
         let mut log = Log::new();
         for i in 1..10u64 {
-            assert_eq!(rt; log.put(i, 0), Ok(()));
+            assert_eq!(rt; log.put(entry(i, 0)), Ok(()));
         }
         assert_eq!(rt; log.entry(0), Some(entry(9, 0)));
         assert_eq!(rt; log.entry(7), Some(entry(2, 0)));
         assert_eq!(rt; log.entry(8), None);
-        assert_eq!(rt; log.put(2, 50), Ok(()));
+        assert_eq!(rt; log.put(entry(2, 50)), Ok(()));
         assert_eq!(rt; log.entry(7), Some(entry(2, 50)));
-        assert_eq!(rt; log.put(0, 1), Err(Fault::from(Decline::Stamp)));
+        assert_eq!(rt; log.put(entry(0, 1)), Err(Fault::from(Decline::Stamp)));
     }
 
     #[test]

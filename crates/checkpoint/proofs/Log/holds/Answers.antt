@@ -9,7 +9,7 @@ use Rattle.checkpoint.proofs.Log.holds.Goals as goal
 pub returns : goal.returns
 returns c =
     let es = entries_of c.args.self.now in
-    let r = first_from_find _ _ c.find-found.result (λ (e : Entry). e.stamp ≡ c.args.stamp) (λ e. e.stamp ≡ c.args.stamp → ⊥) c.find-found.ensures.ran (YieldsList-from_slice es (search rules))
+    let r = first_from_find _ _ c.find-found.result (λ (e : Entry). e.stamp ≡ c.args.entry.stamp) (λ e. e.stamp ≡ c.args.entry.stamp → ⊥) c.find-found.ensures.ran (YieldsList-from_slice es (search rules))
     (λ x q k. search (rules, tests)) (λ x q k. search (rules, tests)) in
-    let f : MatchOption c.find-found.result (c.is_some_and.result ≡ false) (λ e. c.is_some_and.result ≡ nat_eq e.now.position c.args.position) = search rules in
-    settled_found c.args.stamp c.args.position es c.find-found.result c.is_some_and.result r f
+    let f : MatchOption c.find-found.result (c.is_some_and.result ≡ false) (λ e. c.is_some_and.result ≡ nat_eq e.now.position c.args.entry.position) = search rules in
+    settled_found c.args.entry.stamp c.args.entry.position es c.find-found.result c.is_some_and.result r f
