@@ -53,7 +53,11 @@ mod tests {
             Err(Fault::from(Decline::Revision))
         );
         let mut out = [0u8; 20];
-        assert_eq!(rt; notation::write(3, 1, &mut out), Ok(4));
+        let revision = Revision {
+            generation: 3,
+            tag: 1,
+        };
+        assert_eq!(rt; notation::write(revision, &mut out), Ok(4));
         assert!(rt; out.starts_with(b"3-01"));
     }
 

@@ -1,9 +1,10 @@
 -- How the text of a number is made.
-use Rattle.std.proofs.Common.{◌≡◌, ℕ, zero, suc, ◌+◌, ◌-◌, ◌/◌, ◌%◌, ◌<◌, ◌≤◌, eqb, ◌==◌, List, [], ◌∷◌, ◌++◌, length, get_or, take, drop, set, sym, refl, ap, ◌∙◌, add-one, arith, length-append}
+use Rattle.std.proofs.Common.{◌≡◌, ℕ, zero, suc, ◌+◌, ◌-◌, ◌/◌, ◌%◌, ◌<◌, ◌≤◌, eqb, ◌==◌, List, [], ◌∷◌, ◌++◌, length, get_or, take, drop, set, sym, refl, ap, ◌∙◌, add-one, arith}
 use borrow.Rule.Slice.PartMut.{put_mid}
 use Rattle.std.specs.Char.{digit_char}
+use Rattle.std.proofs.lemmas.Grind.{common_steps}
 use Rattle.std.specs.List.{prefix_len}
-use Rattle.std.proofs.lemmas.List.{drop-set, map_push, append_assoc, drop_more, drop-drop, set_at, take_at, drop_at, length_push}
+use Rattle.std.proofs.lemmas.List.{map_push, append_assoc, drop_more, drop-drop, set_at, length_push}
 use Rattle.std.proofs.lemmas.Bool.{cond-true, cond-false, cond_both}
 use Rattle.octets.specs.BigEndian.{in_base}
 use Rattle.notation.specs.Text.{stripped, digits_in}
@@ -12,19 +13,13 @@ use Rattle.notation.specs.Text.{stripped, digits_in}
 digits_push : (base k n : ℕ) → digits_in base (k + 1) n ≡ digits_in base k (n / base) ++ digit_char (n % base) ∷ []
 digits_push base k n = ap (λ (m : ℕ). digits_in base m n) (add-one k) ∙ map_push digit_char (in_base base k (n / base)) (n % base)
 
--- a digit before those that stand
-digits_before : (base k n s : ℕ) (out : List ℕ) → k < length out → s ≡ digit_char (n % base) →
-    digits_in base k (n / base) ++ drop k (set out k s) ≡ digits_in base (k + 1) n ++ drop (k + 1) out
-digits_before base k n s out h e =
-    ap (λ (l : List ℕ). digits_in base k (n / base) ++ l) (drop-set out k s h ∙ ap (λ (d : ℕ). d ∷ drop (k + 1) out) e)
-    ∙ sym (ap (λ (l : List ℕ). l ++ drop (k + 1) out) (digits_push base k n) ∙ append_assoc (digits_in base k (n / base)) (digit_char (n % base) ∷ []) (drop (k + 1) out))
-
--- the same, from a place that counts down
+-- a digit before those that stand, from a place that counts down
 pub digits_down : (base i n s : ℕ) (out : List ℕ) → 0 < i → i ≤ length out → s ≡ digit_char (n % base) →
     digits_in base (i - 1) (n / base) ++ drop (i - 1) (set out (i - 1) s) ≡ digits_in base i n ++ drop i out
 digits_down base i n s out z h e =
     let d : i - 1 + 1 ≡ i = omega arith in
-    digits_before base (i - 1) n s out (omega arith) e ∙ ap (λ (k : ℕ). digits_in base k n ++ drop k out) d
+    let r : digits_in base (i - 1) (n / base) ++ drop (i - 1) (set out (i - 1) s) ≡ digits_in base (i - 1 + 1) n ++ drop (i - 1 + 1) out = grind (arith, common_steps, digits_push) in
+    r ∙ ap (λ (k : ℕ). digits_in base k n ++ drop k out) d
 
 -- what is stripped is the zeros in front, among so many bytes
 pub stripped_drop : (most : ℕ) (cs : List ℕ) → drop (prefix_len (λ c. c == 48) (take most cs)) cs ≡ stripped most cs
@@ -44,8 +39,7 @@ module _ (x y out : List ℕ) where
 
   -- a part laid behind a front
   part_laid : (front rest : List ℕ) (k n : ℕ) → length front ≡ n → put_mid n k (front ++ rest) y ≡ front ++ (y ++ drop k rest)
-  part_laid front rest k n e =
-      ap (λ (l : List ℕ). l ++ (y ++ drop k (drop n (front ++ rest)))) (take_at front rest n e) ∙ ap (λ (l : List ℕ). front ++ (y ++ drop k l)) (drop_at front rest n e)
+  part_laid front rest k n e = grind (arith, common_steps)
 
   -- two parts and a byte between them
   pub parts_laid : (c : ℕ) → length x < length out →
@@ -59,6 +53,3 @@ module _ (x y out : List ℕ) where
       ∙ (ap (λ (j : ℕ). (x ++ c ∷ []) ++ (y ++ drop j rest)) k
       ∙ (ap (λ (l : List ℕ). (x ++ c ∷ []) ++ (y ++ l)) r
       ∙ (append_assoc x (c ∷ []) (y ++ drop (length x + 1 + length y) out) ∙ sym (append_assoc x (c ∷ y) (drop (length x + 1 + length y) out))))))
-
-  pub parts_many : (c : ℕ) → length x + 1 + length y ≡ length (x ++ c ∷ y)
-  parts_many c = omega (arith, length-append x (c ∷ y))

@@ -107,6 +107,7 @@ fn lay_text(revision: Revision, out: &mut [u8]) -> usize
     requires { (good_generation revision.generation ≡ true) × (20 ≤ length out.old) }
     ensures { Wrote revision.generation revision.tag out.old out.new result }
 {
+    // Kept: tried as `write!(memory, "{generation}-{tag:02x}")`, which promises nothing of the bytes in lent memory.
     let generation: [u8; 3] = digits(10, revision.generation as u64);
     let tag: [u8; 16] = digits(16, revision.tag);
     lay_parts(stripped(2, &generation), stripped(14, &tag), out)

@@ -1,7 +1,7 @@
 -- Packed bytes read back.
-use Rattle.std.proofs.Common.{◌≡◌, ℕ, ◌+◌, ◌-◌, ◌^◌, ◌<◌, ◌≤◌, min, List, ◌++◌, length, get_or, take, drop, replicate, sym, refl, ap, ◌∙◌, subst, ⊎_elim, arith, lit<, length-append}
-use Rattle.std.proofs.lemmas.List.{take-append-drop, take-take, take_at, length-take-le, length-take, length-drop, length-replicate, take_all, drop-replicate, replicate-append-replicate, append_assoc, get_or-take, get_or-drop, get_or_past, get_or_append_left, get_or-append_right, get_or-replicate}
-use Rattle.std.proofs.lemmas.Bool.{cases_lt}
+use Rattle.std.proofs.Common.{◌≡◌, ℕ, ◌+◌, ◌-◌, ◌^◌, ◌<◌, ◌≤◌, min, List, ◌++◌, length, get_or, take, drop, replicate, sym, refl, ap, ◌∙◌, subst, arith, lit<, length-append}
+use Rattle.std.proofs.lemmas.List.{take-append-drop, take-take, take_at, length-take-le, length-take, length-drop, length-replicate, take_all, drop-replicate, replicate-append-replicate, append_assoc}
+use Rattle.std.proofs.lemmas.Grind.{common_steps}
 use Rattle.std.proofs.lemmas.Int.Digits.{number_lt}
 use Rattle.std.proofs.ByRecursion.{All-from_get_or}
 use native.Mathlib.Nat.{pow-le-pow_right}
@@ -11,11 +11,11 @@ use Rattle.octets.specs.declared.Packed.{Packed}
 use Rattle.octets.proofs.Widths.{in_bytes_number}
 
 pub length_filled : (k : ℕ) (bs : List ℕ) → length (filled k bs) ≡ k
-length_filled k bs = length-take-le k (bs ++ replicate k 0) (omega (arith, length-append bs (replicate k 0), length-replicate {A = ℕ} k 0))
+length_filled k bs = grind (arith, common_steps)
 
 -- the front of filled bytes is the bytes
 pub take_filled : (k : ℕ) (bs : List ℕ) → length bs ≤ k → take (length bs) (filled k bs) ≡ bs
-take_filled k bs h = take-take (length bs) k (bs ++ replicate k 0) h ∙ take_at bs (replicate k 0) (length bs) refl
+take_filled k bs h = grind (arith, common_steps)
 
 -- what is packed is unpacked
 pub unpacked_packs : (bs : List ℕ) (p : Packed) → Packs bs p → unpacked p ≡ bs
@@ -36,22 +36,16 @@ abbrev pub Small : List ℕ → Type 0
 Small bs = (i : ℕ) → get_or bs i 0 < 256
 
 pub small_take : (k : ℕ) (bs : List ℕ) → Small bs → Small (take k bs)
-small_take k bs u i = ⊎_elim (λ (p : i < k). rw get_or-take (u i)) (λ (p : k ≤ i). rw (get_or_past (take k bs) i 0 (omega (arith, length-take k bs))) (lit< tt)) (cases_lt i k)
+small_take k bs u i = grind (arith, common_steps, u i)
 
 pub small_drop : (k : ℕ) (bs : List ℕ) → Small bs → Small (drop k bs)
-small_drop k bs u i = rw get_or-drop (u (k + i))
+small_drop k bs u i = grind (arith, common_steps, u (k + i))
 
 pub small_append : (bs cs : List ℕ) → Small bs → Small cs → Small (bs ++ cs)
-small_append bs cs u v i = ⊎_elim
-    (λ (p : i < length bs). rw (get_or_append_left bs cs 0 i p) (u i))
-    (λ (p : length bs ≤ i). rw (get_or-append_right bs cs (length bs) i 0 refl p) (v (i - length bs)))
-    (cases_lt i (length bs))
+small_append bs cs u v i = grind (arith, common_steps, u i, v (i - length bs))
 
 small_zeros : (k : ℕ) → Small (replicate k 0)
-small_zeros k i = ⊎_elim
-    (λ (p : i < k). let e : get_or (replicate {A = ℕ} k 0) i 0 ≡ 0 = get_or-replicate {A = ℕ} k i 0 0 p in omega arith)
-    (λ (p : k ≤ i). let e : get_or (replicate {A = ℕ} k 0) i 0 ≡ 0 = get_or_past {X = ℕ} (replicate k 0) i 0 (omega (arith, length-replicate {A = ℕ} k 0)) in omega arith)
-    (cases_lt i k)
+small_zeros k i = grind (arith, common_steps)
 
 -- the numbers of both halves of 16 bytes
 pub numbers_pack : (bs all : List ℕ) (p : Packed) → length bs ≤ 16 → Small bs → all ≡ bs ++ drop (length bs) (replicate 16 0) →
@@ -76,10 +70,7 @@ packs_once bs p q x y = x.is ∙ sym y.is
 
 -- a front that is cut to the length
 pub take_clamped : {X : Type 0} (xs : List X) (n m k : ℕ) → length xs ≡ k → m ≡ min n k → take (m - 0) xs ≡ take n xs
-take_clamped xs n m k l e = ⊎_elim
-    (λ (h : n < k). let q : m - 0 ≡ n = omega arith in ap (λ (j : ℕ). take j xs) q)
-    (λ (h : k ≤ n). let q : m - 0 ≡ k = omega arith in ap (λ (j : ℕ). take j xs) q ∙ (take_all k xs (omega arith) ∙ sym (take_all n xs (omega arith))))
-    (cases_lt n k)
+take_clamped xs n m k l e = grind (arith, common_steps)
 
 -- the part of both numbers' bytes that is meant, however long the length says
 pub unpacked_part : (p : Packed) (all : List ℕ) (n : ℕ) → all ≡ sixteen p → n ≡ min p.length 16 → take (n - 0) all ≡ unpacked p
