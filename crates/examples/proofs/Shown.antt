@@ -17,18 +17,10 @@ right : (s p t q : ℕ) → ◌≡◌ {A = ℕ × ℕ} (s, p) (t, q) → p ≡ q
 right s p t q e = ap (λ (k : ℕ × ℕ). k.1) e
 
 first_greatest : (s p q : ℕ) → Mem {A = ℕ × ℕ} (s, p) ((9, 20) ∷ (5, 12) ∷ []) → Mem {A = ℕ × ℕ} (s, q) ((7, 30) ∷ (5, 10) ∷ []) → min p q ≤ 10
-first_greatest s p q (inl e) (inl f) = absurd (omega (arith, left s p 9 20 e, left s q 7 30 f))
-first_greatest s p q (inl e) (inr (inl f)) = absurd (omega (arith, left s p 9 20 e, left s q 5 10 f))
-first_greatest s p q (inl e) (inr (inr f)) = absurd f
-first_greatest s p q (inr (inl e)) (inl f) = absurd (omega (arith, left s p 5 12 e, left s q 7 30 f))
-first_greatest s p q (inr (inl e)) (inr (inl f)) = omega (arith, right s q 5 10 f)
-first_greatest s p q (inr (inl e)) (inr (inr f)) = absurd f
-first_greatest s p q (inr (inr e)) f = absurd e
+first_greatest s p q m n = grind (arith, left, right)
 
 second_greatest : (s p q : ℕ) → Mem {A = ℕ × ℕ} (s, p) ((9, 20) ∷ (5, 12) ∷ []) → Mem {A = ℕ × ℕ} (s, q) ((9, 15) ∷ (5, 12) ∷ []) → min p q ≤ 15
-second_greatest s p q m (inl f) = omega (arith, right s q 9 15 f)
-second_greatest s p q m (inr (inl f)) = omega (arith, right s q 5 12 f)
-second_greatest s p q m (inr (inr f)) = absurd f
+second_greatest s p q m n = grind (arith, left, right)
 
 -- two heads in order
 two : (t : Tree) (h k : Head) (hs : List Head) → Heads t hs → Both h k hs → Descending (h ∷ k ∷ []) → hs ≡ h ∷ k ∷ []

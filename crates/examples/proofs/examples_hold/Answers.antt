@@ -1,6 +1,5 @@
-use Rattle.std.proofs.Common.{refl}
 use Rattle.examples.proofs.Shown.{examples}
 use Rattle.examples.proofs.examples_hold.Goals as goal
 
-pub returns : goal.returns
-returns c = record { examples = examples; count = refl }
+pub returns-clause-examples : goal.returns-clause-examples
+returns-clause-examples c = examples
