@@ -1,7 +1,7 @@
 // Bytes as numbers, the highest first, and bytes laid into lent memory.
 #![tactic(auto)]
 
-ghost use Rattle.std.specs.Prelude.{◌≡◌, ℕ, ◌+◌, ◌*◌, ◌<◌, ◌≤◌, List, ◌++◌, length, take, drop, MatchOption, MatchResult};
+ghost use Rattle.std.specs.Prelude.{◌≡◌, ◌+◌, ◌*◌, ◌<◌, ◌++◌, length, take, drop, MatchOption, MatchResult};
 ghost use Rattle.octets.specs.BigEndian.{number, with_eight};
 ghost use Rattle.octets.specs.Places.{place_of, FirstPlace};
 ghost use Rattle.octets.specs.Packed.{sixteen, unpacked, Packs};

@@ -2,8 +2,8 @@
 // 1 deleted) and body, parted by one space. Shows for each product the price in force and the conflicting ones.
 #![tactic(auto)]
 
-ghost use Rattle.std.specs.Prelude.{◌≡◌, ◌≤◌, length, Decides};
-ghost use Rattle.prices.specs.Lines.{front, behind, MarkField, LineRead, IsFor, Found, Judged};
+ghost use Rattle.std.specs.Prelude.{◌≡◌};
+ghost use Rattle.prices.specs.Lines.{front, behind, MarkField, LineRead, Found, Judged};
 
 use decline::{Decline, Fault};
 use examples::examples_hold;
@@ -96,6 +96,15 @@ fn added<'a>(prices: &[Price<'_>], line: &'a [u8]) -> Result<Option<Price<'a>>, 
     Ok(is_new(prices, price)?.then_some(price))
 }
 
+// Adds a product's id.
+fn add_id(out: &mut Vec<u8>, product: DocumentId) -> io::Result<()> {
+    let mut text = [0u8; 16];
+    if let Ok(n) = product.lay(&mut text) {
+        out.write_all(&text[..n])?;
+    }
+    Ok(())
+}
+
 // The prices that are kept, in the order in which they came.
 #[derive(Drop)]
 struct Prices<'a> {
@@ -104,15 +113,6 @@ struct Prices<'a> {
 }
 
 impl<'a> Prices<'a> {
-    // Adds a product's id.
-    fn add_id(out: &mut Vec<u8>, product: DocumentId) -> io::Result<()> {
-        let mut text = [0u8; 16];
-        match product.lay(&mut text) {
-            Ok(n) => out.write_all(&text[..n]),
-            Err(_) => Ok(()),
-        }
-    }
-
     // Adds what a head says, - for nothing, with its revision.
     fn add_head(&self, out: &mut Vec<u8>, product: DocumentId, head: Head) -> io::Result<()> {
         if let Some(i) = find(&self.kept, product, head.revision) {
@@ -139,7 +139,7 @@ impl<'a> Prices<'a> {
     // Adds a product's line: the price in force and the conflicting ones, greatest first.
     fn add_product(&self, out: &mut Vec<u8>, product: DocumentId) -> io::Result<()> {
         let mut heads = self.heads_of(product)?;
-        Prices::add_id(out, product)?;
+        add_id(out, product)?;
         out.write_all(b": ")?;
         if let Some(head) = winner(&heads) {
             if head.mark == Mark::Deleted {
