@@ -64,19 +64,19 @@ impl Peer for Memory {
     }
 
     fn row_after(&mut self, n: u32) -> Result<Option<Row>, Fault> {
-        Ok(self.tables.row_after(n))
+        Ok(reads::row_after(&self.tables, n))
     }
 
     fn head_count(&mut self, id: &[u8]) -> Result<u32, Fault> {
-        self.tables.head_count(id)
+        reads::head_count(&self.tables, id)
     }
 
     fn head_at(&mut self, id: &[u8], i: u32) -> Result<Option<Revision>, Fault> {
-        self.tables.head_at(id, i)
+        reads::head_at(&self.tables, id, i)
     }
 
     fn is_held(&mut self, id: &[u8], generation: u8, tag: u64) -> Result<bool, Fault> {
-        self.tables.is_held(id, generation, tag)
+        reads::is_held(&self.tables, id, generation, tag)
     }
 
     fn tags_of(
@@ -86,7 +86,7 @@ impl Peer for Memory {
         tag: u64,
         out: &mut [u8],
     ) -> Result<usize, Fault> {
-        self.tables.tags_of(id, generation, tag, out)
+        reads::tags_of(&self.tables, id, generation, tag, out)
     }
 
     fn body_of(
@@ -96,11 +96,11 @@ impl Peer for Memory {
         tag: u64,
         out: &mut [u8],
     ) -> Result<Body, Fault> {
-        self.tables.body_of(id, generation, tag, out)
+        reads::body_of(&self.tables, id, generation, tag, out)
     }
 
     fn log_entry(&mut self, key: &[u8], i: u32) -> Result<Option<Entry>, Fault> {
-        self.tables.log_entry(key, i)
+        reads::log_entry(&self.tables, key, i)
     }
 
     fn log_write(&mut self, key: &[u8], stamp: u64, position: u32) -> Result<(), Fault> {

@@ -13,21 +13,22 @@ use Rattle.keys.specs.Values.{key_of, KeyRead}
 use Rattle.keys.proofs.Keys.{same_key_true}
 use Rattle.checkpoint.specs.Logs.{Entries, Note, settled, entered, enter}
 use Rattle.checkpoint.specs.Values.{pairs, entries_of}
-use Rattle.tables.specs.declared.KeyedLog.{KeyedLog}
+use Rattle.checkpoint.proofs.Logs.{entered_some}
+use Rattle.entries.specs.declared.KeyedLog.{KeyedLog}
 use Rattle.tables.specs.declared.Tables.{Tables}
-use Rattle.tables.specs.Searches.{first, place, Once}
-use Rattle.tables.specs.Tables.{is_log, entries_in, logs_in, logs_of, documents_of, documents_in, record_of}
+use Rattle.entries.specs.Searches.{first, place, Once}
+use Rattle.entries.specs.Entries.{is_log, entries_in, logs_in, documents_in}
+use Rattle.tables.specs.Tables.{logs_of, documents_of, record_of}
 use Rattle.tables.specs.Sound.{Sound, SoundDocuments, SoundRevisions, SoundLogs}
-use Rattle.peer.specs.Functions.{log_write, input}
+use Rattle.peer.specs.Functions.{log_write, input, note_given, full, fine}
 use Rattle.peer.specs.Peers.{entry, changes}
-use Rattle.peer.specs.Functions.{note_given, full, fine}
 use Rattle.peer.specs.Replies.{plain}
 use Rattle.tables.specs.Room.{room_in, one_more}
-use Rattle.tables.specs.Reads.{Writes, applied}
+use Rattle.tables.specs.Calls.{Writes, applied}
 use Rattle.tables.specs.LogWrites.{OnlyLogs, EnteredAt, EnteredNew}
 use Rattle.tables.proofs.Inputs.{test_passed}
-use Rattle.tables.proofs.Searching.{Found, found, not_found, false_if, not_both}
-use Rattle.tables.proofs.Lookups.{none_passes}
+use Rattle.entries.proofs.Searching.{Found, found, not_found, false_if, not_both}
+use Rattle.entries.proofs.Lookups.{none_passes}
 use Rattle.tables.proofs.Entries.{first_append, set_other, set_only}
 
 -- the log write of a key
@@ -103,11 +104,22 @@ module _ (t u : Tables) (k : Key) (at s p : ℕ) (z : KeyedLog) (f : place (is_l
       (λ (n : i ≡ at → ⊥). ap (is_log l) (get_or-set_other (vec_items t.logs) at i w.entry y n))
       (cases_eq i at)
 
+  -- the log that was entered into has an entry, the others have theirs
+  some_at : (i : ℕ) (y : KeyedLog) → i < length (vec_items t.logs) → 1 ≤ length (pairs (entries_of (get_or (set (vec_items t.logs) at w.entry) i y).log))
+  some_at i y h = ⊎_elim
+      (λ (e : i ≡ at). subst (λ (l : KeyedLog). 1 ≤ length (pairs (entries_of l.log))) (sym (ap (λ (j : ℕ). get_or (set (vec_items t.logs) at w.entry) j y) e ∙ get_or-set_same (vec_items t.logs) at w.entry y there.within))
+      (subst (λ (l : Entries ℕ). 1 ≤ length l) (sym (w.log z)) (entered_some eqb s p (pairs (entries_of (get_or (vec_items t.logs) at z).log)))))
+      (λ (n : i ≡ at → ⊥). subst (λ (l : KeyedLog). 1 ≤ length (pairs (entries_of l.log))) (sym (get_or-set_other (vec_items t.logs) at i w.entry y n)) (q.logs.written i y h))
+      (cases_eq i at)
+
   pub at_sound : Sound u
   at_sound =
       let n : length (set (vec_items t.logs) at w.entry) ≡ length (vec_items t.logs) = length-set (vec_items t.logs) at w.entry in
       still_sound t u w.only q
-      (subst SoundLogs (sym w.logs) (record { once = λ l i j y h g a b. q.logs.once l i j y (omega arith) (omega arith) (sym (tests l i y (omega arith)) ∙ a) (sym (tests l j y (omega arith)) ∙ b) }))
+      (subst SoundLogs (sym w.logs) (record {
+        once = λ l i j y h g a b. q.logs.once l i j y (omega arith) (omega arith) (sym (tests l i y (omega arith)) ∙ a) (sym (tests l j y (omega arith)) ∙ b);
+        written = λ i y h. some_at i y (omega arith);
+      }))
       (omega (arith, ap length w.logs, q.reserved.logs.1))
 
 -- a new log
@@ -158,9 +170,17 @@ module _ (t u : Tables) (k : Key) (s p : ℕ) (z : KeyedLog) (f : place (is_log 
       go (inr c) (inl d) = absurd (apart l j y d (below j d b) (last i (omega (arith, n)) a))
       go (inr c) (inr d) = omega (arith, n)
 
+  -- the new log has an entry, the others have theirs
+  some_more : (i : ℕ) (y : KeyedLog) → i < length (vec_items t.logs ++ (w.entry ∷ [])) → 1 ≤ length (pairs (entries_of (get_or (vec_items t.logs ++ (w.entry ∷ [])) i y).log))
+  some_more i y h = ⊎_elim
+      (λ (c : i < length (vec_items t.logs)). subst (λ (l : KeyedLog). 1 ≤ length (pairs (entries_of l.log))) (sym (get_or_append_left (vec_items t.logs) (w.entry ∷ []) y i c)) (q.logs.written i y c))
+      (λ (c : length (vec_items t.logs) ≤ i). let e : i ≡ length (vec_items t.logs) = omega (arith, length-append (vec_items t.logs) (w.entry ∷ [])) in
+      subst (λ (l : KeyedLog). 1 ≤ length (pairs (entries_of l.log))) (sym (get_or_push (vec_items t.logs) w.entry y i (sym e))) (subst (λ (l : Entries ℕ). 1 ≤ length l) (sym w.log) (entered_some eqb s p [])))
+      (cases_lt i (length (vec_items t.logs)))
+
   pub new_sound : length (vec_items t.logs) < 8 → Sound u
   new_sound h =
-      still_sound t u w.only q (subst SoundLogs (sym w.logs) (record { once = once_more }))
+      still_sound t u w.only q (subst SoundLogs (sym w.logs) (record { once = once_more; written = some_more }))
       (omega (arith, ap length w.logs, length-append (vec_items t.logs) (w.entry ∷ [])))
 
 -- The whole call --------------------------------------------------------------------------------------------------------

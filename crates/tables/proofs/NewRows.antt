@@ -1,7 +1,7 @@
 -- The entries that a path adds.
 use Rattle.std.proofs.Common.{◌≡◌, ℕ, ◌+◌, ◌-◌, ◌≤◌, cond, eqb, List, [], ◌∷◌, ◌++◌, Some, None, Option, sym, ap, ◌∙◌, append_assoc, arith}
 use Rattle.std.proofs.lemmas.List.FromFn.{map-range_with_len_more}
-use Rattle.tables.specs.declared.HeldRevision.{HeldRevision}
+use Rattle.entries.specs.declared.HeldRevision.{HeldRevision}
 use Rattle.tables.specs.Paths.{row, rows}
 
 abbrev entry : ℕ → ℕ → ℕ → ℕ → Option ℕ → HeldRevision

@@ -16,7 +16,7 @@ use Rattle.peer.specs.Replies.{plain}
 use Rattle.peer.proofs.Callers.{passed}
 use Rattle.tables.specs.declared.Tables.{Tables}
 use Rattle.tables.specs.Paths.{content}
-use Rattle.tables.specs.Reads.{PathLength, PathReplied, Writes}
+use Rattle.tables.specs.Calls.{PathLength, PathReplied, Writes}
 
 mark_small : (m : Mark) → mark_number m ≤ 1
 mark_small Live = omega arith

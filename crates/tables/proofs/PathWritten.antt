@@ -14,17 +14,18 @@ use Rattle.revision.specs.Heads.{Head, Heads}
 use Rattle.peer.specs.Records.{Documents, Record, put}
 use Rattle.peer.specs.Peers.{path}
 use Rattle.peer.specs.Functions as F
-use Rattle.tables.specs.declared.Document.{Document}
-use Rattle.tables.specs.declared.HeldRevision.{HeldRevision}
-use Rattle.tables.specs.declared.Content.{Content}
+use Rattle.entries.specs.declared.Document.{Document}
+use Rattle.entries.specs.declared.HeldRevision.{HeldRevision}
+use Rattle.entries.specs.declared.Content.{Content}
 use Rattle.tables.specs.declared.Tables.{Tables}
-use Rattle.tables.specs.Searches.{place}
-use Rattle.tables.specs.Tables.{is_document, is_revision, tree_at, node_of, slotted, content_of, documents_in, documents_of, logs_in, logs_of, record_of}
+use Rattle.entries.specs.Searches.{place}
+use Rattle.entries.specs.Entries.{is_document, is_revision, tree_at, node_of, slotted, content_of, documents_in, logs_in, slot_at, no_revision}
+use Rattle.tables.specs.Tables.{documents_of, logs_of, record_of}
 use Rattle.tables.specs.Sound.{Sound, SoundDocuments, SoundRevisions, SoundLogs}
-use Rattle.tables.specs.Paths.{standing, Newest, slot_at, placed, place_for, renewed, no_revision, Keeps, SlotRoom, Fits, Extended, tree_in, entry_of, slot_of, Wrote}
+use Rattle.tables.specs.Paths.{standing, Newest, placed, place_for, renewed, Keeps, SlotRoom, Fits, Extended, tree_in, entry_of, slot_of, Wrote}
 use Rattle.tables.specs.Room.{missing, newest_head, one_more, room_in}
-use Rattle.tables.specs.Reads.{PathReplied}
-use Rattle.tables.proofs.Searching.{found, not_found, not_both}
+use Rattle.tables.specs.Calls.{PathReplied}
+use Rattle.entries.proofs.Searching.{found, not_found, not_both}
 use Rattle.tables.proofs.PathRule.{Suits, Tags, clash_contradicts, leaf_contradicts, not_contradicted}
 use Rattle.tables.proofs.Growth.{changes_not, changes_some, suits_gone, gone}
 use Rattle.tables.proofs.TableGrowth.{rs', cs', length_after, same_tree, tree_written}

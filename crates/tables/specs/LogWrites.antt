@@ -4,7 +4,7 @@ use Rattle.keys.specs.Keys.{Key}
 use Rattle.keys.specs.Values.{key_of}
 use Rattle.checkpoint.specs.Logs.{entered}
 use Rattle.checkpoint.specs.Values.{pairs, entries_of}
-use Rattle.tables.specs.declared.KeyedLog.{KeyedLog}
+use Rattle.entries.specs.declared.KeyedLog.{KeyedLog}
 use Rattle.tables.specs.declared.Tables.{Tables}
 
 -- only the logs have changed, and there is as much memory for them as before

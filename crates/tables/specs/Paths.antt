@@ -1,5 +1,5 @@
 -- How a path is written to the tables.
-use Rattle.std.specs.Prelude.{◌≡◌, ℕ, ◌+◌, ◌-◌, ◌*◌, ◌<◌, ◌≤◌, cond, ◌⊎◌, List, [], ◌∷◌, ◌++◌, map, length, get_or, take, drop, Some, None, Ok, Err, vec_items, vec_capacity, Option, Result, ◌==◌, ◌≢◌, nat_lt, slice_index_or, slice_set}
+use Rattle.std.specs.Prelude.{◌≡◌, ℕ, ◌+◌, ◌-◌, ◌*◌, ◌<◌, ◌≤◌, cond, ◌⊎◌, List, [], ◌∷◌, ◌++◌, map, length, take, drop, Some, None, Ok, Err, vec_items, vec_capacity, Option, Result, MatchOption, ◌==◌, ◌≢◌, nat_lt, slice_index_or, slice_set}
 use Rattle.std.specs.List.{range_with_len}
 use Rattle.decline.specs.declared.Fault.{Fault}
 use Rattle.decline.specs.Faults.{bare}
@@ -7,13 +7,14 @@ use Rattle.revision.specs.declared.DocumentId.{DocumentId}
 use Rattle.octets.specs.BigEndian.{number}
 use Rattle.revision.specs.Trees as Trees
 use Rattle.revision.specs.Trees.{Node, absent, inner, head, Tree}
-use Rattle.tables.specs.declared.Document.{Document}
-use Rattle.tables.specs.declared.HeldRevision.{HeldRevision}
-use Rattle.tables.specs.declared.Content.{Content}
+use Rattle.entries.specs.declared.Document.{Document}
+use Rattle.entries.specs.declared.HeldRevision.{HeldRevision}
+use Rattle.entries.specs.declared.Content.{Content}
+use Rattle.tables.specs.declared.NewestHeld.{NewestHeld}
 use Rattle.tables.specs.declared.Standing.{Standing}
 use Rattle.tables.specs.declared.Tables.{Tables}
-use Rattle.tables.specs.Searches.{place}
-use Rattle.tables.specs.Tables.{content_of, no_content, tree_at, is_revision}
+use Rattle.entries.specs.Searches.{place}
+use Rattle.entries.specs.Entries.{content_of, no_content, no_revision, slot_at, tree_at, is_revision}
 use Rattle.tables.specs.declared.Standing.TheVariants.{Missing, Agrees, Against}
 
 -- the tag of generation g of a path, whose bytes have generation 1 first; 0 at generation 0
@@ -45,19 +46,10 @@ pub record Newest (s : ℕ → Standing) (n k : ℕ) : Type 0 where
 abbrev pub without_slot : HeldRevision → HeldRevision
 without_slot r = record { document = r.document; generation = r.generation; tag = r.tag; parent = r.parent; slot = None }
 
--- an entry that says nothing, for a place that is not there
-abbrev pub no_revision : HeldRevision
-no_revision = record { document = 0; generation = 0; tag = 0; parent = 0; slot = None }
-
 -- the entries with the slot taken from one of them
 abbrev pub stripped : List HeldRevision → Option ℕ → List HeldRevision
 stripped rs None = rs
 stripped rs (Some i) = slice_set rs i (without_slot (slice_index_or rs i no_revision))
-
--- the slot of the entry at a place, if it is a head's
-abbrev pub slot_at : List HeldRevision → Option ℕ → Option ℕ
-slot_at rs None = None
-slot_at rs (Some i) = (get_or rs i no_revision).slot
 
 -- the contents with a new one, in the slot of another or behind all, and its slot
 abbrev pub placed : List Content → Option ℕ → Content → List Content
@@ -123,6 +115,16 @@ entry_of t d tag k = place (is_revision d k (tag k)) 0 (vec_items t.revisions)
 
 abbrev pub slot_of : Tables → ℕ → (ℕ → ℕ) → ℕ → Option ℕ
 slot_of t d tag k = slot_at (vec_items t.revisions) (entry_of t d tag k)
+
+-- a place that is one of the entries', or none
+abbrev pub Inside : Tables → Option ℕ → Type 0
+Inside t o = MatchOption o Unit (λ i. i < length (vec_items t.revisions))
+
+-- the newest generation of a path that is held, or 0, with the place of its entry
+pub record NewestAt (t : Tables) (d : ℕ) (tag : ℕ → ℕ) (n : ℕ) (h : NewestHeld) : Type 0 where
+  pub newest : Newest (standing (tree_in t d) tag) n h.generation
+  pub entry : h.place ≡ entry_of t d tag h.generation
+  pub within : Inside t h.place
 
 -- What a path write of good input does to the tables. It is declined 34 if a generation is held under another parent, or the last one is a head with other
 -- content; it changes nothing if the last one is held; else it is declined 35 for want of room, or written.

@@ -4,75 +4,47 @@
 
 ghost use Rattle.std.specs.Prelude.{◌≡◌, ◌+◌, ◌-◌, ◌*◌, ◌<◌, ◌≤◌, ◌++◌, length, IfSome, IfOk, if◌then◌else◌, Some, None, Ok, vec_len, vec_capacity, Decides, MatchOption, nat_eq, slice_index_or};
 ghost use Rattle.octets.specs.Packed.{unpacked};
-ghost use Rattle.order.specs.Lists.{same};
 ghost use Rattle.revision.specs.Values.{mark_number};
-ghost use Rattle.keys.specs.Keys.{same_key};
-ghost use Rattle.keys.specs.Values.{key_of};
-ghost use Rattle.checkpoint.specs.Values.{pair};
 ghost use Rattle.peer.specs.Records.{blank};
 ghost use Rattle.octets.specs.BigEndian.{eights};
 ghost use Rattle.revision.specs.Ids.{IsId};
 ghost use Rattle.peer.specs.Peers.{path};
 ghost use Rattle.peer.specs.Functions.{Function, path_given};
-ghost use Rattle.peer.specs.Replies.{plain, perhaps, row_of, RowHasId};
-ghost use Rattle.tables.specs.Searches.{place};
-ghost use Rattle.tables.specs.Tables.{record_of, is_revision, is_document, is_log, tree_at, content_of};
+ghost use Rattle.peer.specs.Replies.{plain};
+ghost use Rattle.entries.specs.Searches.{place};
+ghost use Rattle.tables.specs.Tables.{record_of};
+ghost use Rattle.entries.specs.Entries.{is_document, content_of, slot_at};
 ghost use Rattle.tables.specs.Sound.{Sound, Reserved};
-ghost use Rattle.tables.specs.Paths.{tag_at, standing, Clash, Newest, stripped, slot_at, slot_for, placed, rows, renewed, content, Keeps, Fits, Extended, Wrote, place_for};
+ghost use Rattle.tables.specs.Paths.{tag_at, standing, Clash, stripped, slot_for, placed, rows, renewed, content, Keeps, Fits, Extended, Wrote, place_for, tree_in, entry_of, Inside, NewestAt};
 ghost use Rattle.std.specs.Borrow.{sem, follows};
 ghost use Rattle.std.specs.Vec.{with_item};
 ghost use Rattle.tables.specs.contracts.Tables.{the_row};
-ghost use Rattle.tables.specs.contracts.HeldRevision.{the_row as revision_row};
-ghost use Rattle.tables.specs.Reads.{Answered, Reads, Stands, NextOf, Earlier, PathLength, PathReplied, Writes};
+ghost use Rattle.entries.specs.contracts.HeldRevision.{the_row as revision-row};
+ghost use Rattle.tables.specs.Calls.{PathLength, PathReplied, Writes};
 
-use checkpoint::{Entry, Log};
 use decline::{Decline, Fault};
-use keys::Key;
-use octets::{Packed, lay, number_of};
-use peer::Row;
-use revision::{DocumentId, Mark, Revision};
+use entries::{Content, Document, HeldRevision, KeyedLog, RevisionOf, place_in};
+use octets::{lay, number_of};
+use revision::{DocumentId, Mark};
 use std::alloc::{AllocError, Global};
 
-// A document with its last change number.
-#[derive(Clone, Copy)]
-struct Document {
-    id: DocumentId,
-    last: u32,
-}
+// How many documents, revisions, heads and logs there is room for.
+const DOCUMENTS: usize = 32;
 
-// A revision that is held: its document's place, its parent's tag, and, if it is a head, the slot of its content.
-#[derive(Clone, Copy)]
-struct HeldRevision {
-    document: u8,
-    generation: u8,
-    tag: u64,
-    parent: u64,
-    slot: Option<u8>,
-}
+const REVISIONS: usize = 1024;
 
-// What a head keeps: its mark, and as many bytes of the body as the length says.
-#[derive(Clone, Copy)]
-struct Content {
-    mark: Mark,
-    length: u8,
-    body: [u8; 96],
-}
+const HEADS: usize = 64;
 
-// The log of a key.
-#[derive(Clone, Copy)]
-struct KeyedLog {
-    key: Key,
-    log: Log,
-}
+const LOGS: usize = 8;
 
-// The tables: room for 32 documents, 1,024 revisions, 64 heads and 8 logs.
+// The tables. Whoever changes them must keep them sound: every call asks for that.
 #[derive(Drop)]
 pub struct Tables {
-    documents: Vec<Document>,
-    revisions: Vec<HeldRevision>,
-    contents: Vec<Content>,
-    logs: Vec<KeyedLog>,
-    highest: u32,
+    pub documents: Vec<Document>,
+    pub revisions: Vec<HeldRevision>,
+    pub contents: Vec<Content>,
+    pub logs: Vec<KeyedLog>,
+    pub highest: u32,
 }
 
 // How a revision of a path stands to the revisions that are held: it is missing, held under the path's parent, or under
@@ -84,126 +56,43 @@ enum Standing {
     Against,
 }
 
-mod heads;
+// What the tables know of a generation of a path: how it stands, and the place of its entry.
+#[derive(Clone, Copy)]
+struct Known {
+    standing: Standing,
+    place: Option<usize>,
+}
+
+// The newest generation of a path that is held, and the place of its entry; generation 0 where none is.
+#[derive(Clone, Copy)]
+struct NewestHeld {
+    generation: usize,
+    place: Option<usize>,
+}
+
 mod logs;
 
-impl HeldRevision {
-    // Whether this is the entry of a document's revision.
-    fn is(&self, document: u8, generation: u8, tag: u64) -> bool
-        ensures { result ≡ is_revision document generation tag self.now }
-    {
-        self.document == document && self.generation == generation && self.tag == tag
-    }
-}
-
-impl Content {
-    // A content of a mark and a body.
-    fn new(mark: Mark, body: &[u8]) -> Content
-        requires { length body.now ≤ 96 }
-        ensures is { content_of result ≡ content (mark_number mark) body.now }
-        ensures short { result.length ≤ 96 }
-    {
-        let mut all = [0u8; 96];
-        lay(&mut all, body);
-        Content {
-            mark,
-            length: body.len() as u8,
-            body: all,
-        }
-    }
-
-    // Whether it keeps this mark and body.
-    fn is(&self, mark: Mark, body: &[u8]) -> bool
-        ensures { Decides result (content_of self.now ≡ content (mark_number mark) body.now) }
-    {
-        let n = (self.length as usize).min(96);
-        self.mark.number() == mark.number() && &self.body[0..n] == body
-    }
-}
-
-// Whether two packed byte strings are the same.
-fn same_bytes(a: Packed, b: Packed) -> bool
-    ensures { result ≡ same (unpacked a) (unpacked b) }
+// A content of a mark and a body.
+fn content_with(mark: Mark, body: &[u8]) -> Content
+    requires { length body.now ≤ 96 }
+    ensures is { content_of result ≡ content (mark_number mark) body.now }
+    ensures short { result.length ≤ 96 }
 {
-    let ours = a.bytes();
-    let theirs = b.bytes();
-    let n = (a.length as usize).min(16);
-    let m = (b.length as usize).min(16);
-    &ours[0..n] == &theirs[0..m]
-}
-
-// Whether two keys are the same.
-fn same_key(a: Key, b: Key) -> bool
-    ensures { result ≡ same_key (key_of a) (key_of b) }
-{
-    a.source == b.source && a.target == b.target && same_bytes(a.rule.prefix, b.rule.prefix)
-}
-
-// The place of a document.
-fn document_in(documents: &[Document], id: DocumentId) -> Option<usize>
-    ensures value { result ≡ place (is_document (unpacked id.bytes)) 0 documents.now }
-    ensures within { IfSome result (λ i. i < length documents.now) }
-{
-    for (i, d) in documents.iter().enumerate() {
-        if same_bytes(d.id.bytes, id.bytes) {
-            return Some(i);
-        }
+    let mut all = [0u8; 96];
+    lay(&mut all, body);
+    Content {
+        mark,
+        length: body.len() as u8,
+        body: all,
     }
-    None
 }
 
-// The place of a document's revision.
-fn revision_in(revisions: &[HeldRevision], document: u8, generation: u8, tag: u64) -> Option<usize>
-    ensures value { result ≡ place (is_revision document generation tag) 0 revisions.now }
-    ensures within { IfSome result (λ i. i < length revisions.now) }
+// Whether a content keeps this mark and body.
+fn is_content(kept: &Content, mark: Mark, body: &[u8]) -> bool
+    ensures { Decides result (content_of kept.now ≡ content (mark_number mark) body.now) }
 {
-    for (i, r) in revisions.iter().enumerate() {
-        if r.is(document, generation, tag) {
-            return Some(i);
-        }
-    }
-    None
-}
-
-// The place of the log of a key.
-fn log_in(logs: &[KeyedLog], key: Key) -> Option<usize>
-    ensures value { result ≡ place (is_log (key_of key)) 0 logs.now }
-    ensures within { IfSome result (λ i. i < length logs.now) }
-{
-    for (i, l) in logs.iter().enumerate() {
-        if same_key(l.key, key) {
-            return Some(i);
-        }
-    }
-    None
-}
-
-// Of the documents the one with the smallest last change number above n.
-fn next_in(documents: &[Document], n: u32) -> Option<Row>
-    ensures { NextOf documents.now (length documents.now) n result }
-{
-    let mut next: Option<Row> = None;
-    for d in documents {
-        if d.last > n {
-            next = earlier(next, *d);
-        }
-    }
-    next
-}
-
-// A row, or that of a document if it has a smaller change number.
-fn earlier(row: Option<Row>, d: Document) -> Option<Row>
-    ensures { Earlier row d result }
-{
-    if let Some(row) = row {
-        if row.change <= d.last {
-            return Some(row);
-        }
-    }
-    Some(Row {
-        id: d.id,
-        change: d.last,
-    })
+    let n = (kept.length as usize).min(96);
+    kept.mark.number() == mark.number() && &kept.body[0..n] == body
 }
 
 // The tag of generation g of a path; 0 where g is 0.
@@ -248,10 +137,10 @@ impl Tables {
         ensures sound { IfOk result (λ t. Sound t) }
         ensures blank { IfOk result (λ t. record_of t ≡ blank) }
     {
-        let documents = Vec::with_capacity(heap, 32)?;
-        let revisions = Vec::with_capacity(heap, 1024)?;
-        let contents = Vec::with_capacity(heap, 64)?;
-        let logs = Vec::with_capacity(heap, 8)?;
+        let documents = Vec::with_capacity(heap, DOCUMENTS)?;
+        let revisions = Vec::with_capacity(heap, REVISIONS)?;
+        let contents = Vec::with_capacity(heap, HEADS)?;
+        let logs = Vec::with_capacity(heap, LOGS)?;
         Ok(Tables {
             documents,
             revisions,
@@ -261,82 +150,73 @@ impl Tables {
         })
     }
 
-    // The place of a revision's entry.
-    fn place_of(&self, id: DocumentId, generation: u8, tag: u64) -> Option<usize>
-        requires { Sound self.now }
-        ensures { Stands self.now (unpacked id.bytes) generation tag result }
+    // How many bytes the tables take: their own, and the memory that is asked for when they are made.
+    pub fn bytes() -> usize
+        ensures { result ≡ 33320 }
     {
-        match document_in(self.documents.as_slice(), id) {
-            None => None,
-            Some(d) => revision_in(self.revisions.as_slice(), d as u8, generation, tag),
-        }
+        let entries = DOCUMENTS * size_of::<Document>() + REVISIONS * size_of::<HeldRevision>();
+        let kept = HEADS * size_of::<Content>() + LOGS * size_of::<KeyedLog>();
+        size_of::<Tables>() + entries + kept
     }
 
-    // The row with the smallest change number above n, or none.
-    pub fn row_after(&self, n: u32) -> Option<Row>
-        requires { Sound self.now }
-        ensures named { RowHasId (Ok result) }
-        ensures row { Answered (Function.row_after n) self.now (perhaps row_of result) }
-    {
-        next_in(self.documents.as_slice(), n)
-    }
-
-    // Whether a revision is held.
-    pub fn is_held(&self, id: &[u8], generation: u8, tag: u64) -> Result<bool, Fault>
-        requires { Sound self.now }
-        ensures { Reads (Function.is_held id.now generation tag) plain self.now result }
-    {
-        let id = DocumentId::read(id)?;
-        let revision = Revision::new(generation, tag)?;
-        match self.place_of(id, revision.generation, revision.tag) {
-            Some(_) => Ok(true),
-            None => Ok(false),
-        }
-    }
-
-    // Entry i of the log of a key, 0 the newest, or none.
-    pub fn log_entry(&self, key: &[u8], i: u32) -> Result<Option<Entry>, Fault>
-        ensures { Reads (Function.log_entry key.now i) (perhaps pair) self.now result }
-    {
-        let key = Key::read(key)?;
-        let logs = self.logs.as_slice();
-        let Some(at) = log_in(logs, key) else {
-            return Ok(None);
-        };
-        Ok(logs[at].log.entry(i as usize))
-    }
-
-    // How generation g of a path stands to the document's revisions.
-    fn standing(&self, document: u8, tags: &[u8], g: usize) -> Standing
+    // How generation g of a path stands to the document's revisions, and the place of its entry.
+    fn look_up(&self, document: u8, tags: &[u8], g: usize) -> Known
         requires low { 0 < g }
         requires high { g ≤ 200 }
         requires within { 8 * g ≤ length tags.now }
-        ensures { result ≡ standing (tree_at self.now.revisions.items self.now.contents.items document) (tag_at tags.now) g }
+        ensures standing { result.standing ≡ standing (tree_in self.now document) (tag_at tags.now) g }
+        ensures entry { result.place ≡ entry_of self.now document (tag_at tags.now) g }
+        ensures within { Inside self.now result.place }
     {
         let revisions = self.revisions.as_slice();
-        match revision_in(revisions, document, g as u8, tag_at(tags, g)) {
-            None => Standing::Missing,
+        let revision = RevisionOf {
+            document,
+            generation: g as u8,
+            tag: tag_at(tags, g),
+        };
+        match place_in(revisions, &revision) {
+            None => Known {
+                standing: Standing::Missing,
+                place: None,
+            },
             Some(i) => {
                 if revisions[i].parent == tag_at(tags, g - 1) {
-                    Standing::Agrees
+                    Known {
+                        standing: Standing::Agrees,
+                        place: Some(i),
+                    }
                 } else {
-                    Standing::Against
+                    Known {
+                        standing: Standing::Against,
+                        place: Some(i),
+                    }
                 }
             }
         }
     }
 
-    // The newest generation of a path that is held, or 0; none where one is held under another parent.
-    fn newest_held(&self, document: u8, tags: &[u8], n: usize) -> Option<usize>
+    // The newest generation of a path that is held, or 0, and the place of its entry; none where one is held under another
+    // parent. The table is gone through once for each generation.
+    fn newest_held(&self, document: u8, tags: &[u8], n: usize) -> Option<NewestHeld>
+        requires sound { Sound self.now }
         requires high { n ≤ 200 }
         requires within { 8 * n ≤ length tags.now }
-        ensures { MatchOption result (Clash (standing (tree_at self.now.revisions.items self.now.contents.items document) (tag_at tags.now)) n) (Newest (standing (tree_at self.now.revisions.items self.now.contents.items document) (tag_at tags.now)) n) }
+        ensures { MatchOption result (Clash (standing (tree_in self.now document) (tag_at tags.now)) n) (NewestAt self.now document (tag_at tags.now) n) }
     {
-        let mut newest = 0;
+        let mut newest = NewestHeld {
+            generation: 0,
+            place: None,
+        };
         for i in 0..n {
-            match self.standing(document, tags, i + 1) {
+            let known = self.look_up(document, tags, i + 1);
+            match known.standing {
                 Standing::Missing => {}
-                Standing::Agrees => newest = i + 1,
+                Standing::Agrees => {
+                    newest = NewestHeld {
+                        generation: i + 1,
+                        place: known.place,
+                    }
+                }
                 Standing::Against => return None,
             }
         }
@@ -346,7 +226,7 @@ impl Tables {
     // An entry of the revisions, lent to be changed.
     fn revision_mut(&mut self, i: usize) -> &mut HeldRevision
         requires { i < vec_len self.old.revisions }
-        ensures* follows { sem 𝓛 (follows the_row revision_row self.entry.ghost_name result.ghost_name (λ w. record { documents = self.old.documents; revisions = with_item self.old.revisions i w; contents = self.old.contents; logs = self.old.logs; highest = self.old.highest })) }
+        ensures* follows { sem 𝓛 (follows the_row revision-row self.entry.ghost_name result.ghost_name (λ w. record { documents = self.old.documents; revisions = with_item self.old.revisions i w; contents = self.old.contents; logs = self.old.logs; highest = self.old.highest })) }
         ensures value { result.now ≡ slice_index_or self.old.revisions.items i result.now }
     {
         &mut self.revisions[i]
@@ -368,17 +248,22 @@ impl Tables {
         }
     }
 
-    // The slot of the entry at a place, if it is a head's.
-    fn slot_at(&self, at: Option<usize>) -> Option<u8>
-        requires sound { Sound self.now }
-        requires there { IfSome at (λ i. i < length self.now.revisions.items) }
+    // The slot of the entry at a place, if it is a head's; none where there is no such place.
+    pub fn slot_at(&self, at: Option<usize>) -> Option<u8>
+        requires { Sound self.now }
         ensures value { result ≡ slot_at self.now.revisions.items at }
         ensures within { IfSome result (λ s. s < length self.now.contents.items) }
     {
         let revisions = self.revisions.as_slice();
         match at {
             None => None,
-            Some(i) => revisions[i].slot,
+            Some(i) => {
+                if i < revisions.len() {
+                    revisions[i].slot
+                } else {
+                    None
+                }
+            }
         }
     }
 
@@ -468,7 +353,7 @@ impl Tables {
         let contents = self.contents.as_slice();
         match slot {
             None => true,
-            Some(s) => contents[s as usize].is(mark, body),
+            Some(s) => is_content(&contents[s as usize], mark, body),
         }
     }
 
@@ -478,10 +363,13 @@ impl Tables {
         ensures { Decides result (Fits self.now document missing slot) }
     {
         let head = match slot {
-            None => self.contents.len() < 64,
+            None => self.contents.len() < HEADS,
             Some(_) => true,
         };
-        document < 32 && self.revisions.len() <= 1024 - missing && head && self.highest < 4294967295
+        document < DOCUMENTS
+            && self.revisions.len() <= REVISIONS - missing
+            && head
+            && self.highest < u32::MAX
     }
 
     // The place of a document, or that behind all.
@@ -490,7 +378,7 @@ impl Tables {
         ensures within { result ≤ length self.now.documents.items }
     {
         let documents = self.documents.as_slice();
-        match document_in(documents, id) {
+        match place_in(documents, &id) {
             Some(i) => i,
             None => documents.len(),
         }
@@ -537,11 +425,11 @@ impl Tables {
         requires known { document ≤ length self.old.documents.items }
         ensures { Wrote self.old id document (tag_at tags.now) n (content (mark_number mark) body.now) result self.new }
     {
-        let Some(k) = self.newest_held(document as u8, tags, n) else {
+        let Some(newest) = self.newest_held(document as u8, tags, n) else {
             return Err(Fault::new(Decline::Contradiction));
         };
-        let at = self.entry_at(document as u8, tags, k);
-        let slot = self.slot_at(at);
+        let k = newest.generation;
+        let slot = self.slot_at(newest.place);
         if k == n {
             if self.keeps(slot, mark, body) {
                 return Ok(0);
@@ -551,18 +439,9 @@ impl Tables {
         if !self.has_room(document, n - k, slot) {
             return Err(Fault::new(Decline::Full));
         }
-        self.extend(id, document, tags, k, n, at, slot, Content::new(mark, body));
+        let content = content_with(mark, body);
+        self.extend(id, document, tags, k, n, newest.place, slot, content);
         Ok(1)
-    }
-
-    // The place of the entry of a path's generation k.
-    fn entry_at(&self, document: u8, tags: &[u8], k: usize) -> Option<usize>
-        requires { (k ≤ 200) × (8 * k ≤ length tags.now) }
-        ensures value { result ≡ place (is_revision document k (tag_at tags.now k)) 0 self.now.revisions.items }
-        ensures within { IfSome result (λ i. i < length self.now.revisions.items) }
-    {
-        let revisions = self.revisions.as_slice();
-        revision_in(revisions, document, k as u8, tag_at(tags, k))
     }
 
     // Writes a path of good input.

@@ -7,12 +7,13 @@ ghost use Rattle.tables.specs.Sound.{Sound};
 ghost use Rattle.peer.specs.Peers.{entry};
 ghost use Rattle.peer.specs.Functions.{Function, note_given};
 ghost use Rattle.peer.specs.Replies.{plain};
-ghost use Rattle.tables.specs.Reads.{Writes};
+ghost use Rattle.tables.specs.Calls.{Writes};
 ghost use Rattle.tables.specs.LogWrites.{EnteredAt, EnteredNew};
 
-use crate::{KeyedLog, Tables, log_in};
+use crate::{LOGS, Tables};
 use checkpoint::Log;
 use decline::{Decline, Fault};
+use entries::{KeyedLog, place_in};
 use keys::Key;
 
 // A log after a log write.
@@ -28,7 +29,7 @@ fn entered(log: Log, stamp: u64, position: u32) -> Log
 impl Tables {
     // Enters stamp and position into the log at a place.
     fn enter_at(&mut self, at: usize, stamp: u64, position: u32)
-        requires { (at < length self.old.logs.items) × (stamp ≢ 0) }
+        requires { (at < length self.old.logs.items) × ((stamp ≢ 0)) }
         ensures { EnteredAt self.old self.new at stamp position }
     {
         let old = self.logs[at];
@@ -38,7 +39,7 @@ impl Tables {
 
     // Enters stamp and position into a new log.
     fn enter_new(&mut self, key: Key, stamp: u64, position: u32)
-        requires { (vec_len self.old.logs < vec_capacity self.old.logs) × (stamp ≢ 0) }
+        requires { (vec_len self.old.logs < vec_capacity self.old.logs) × ((stamp ≢ 0)) }
         ensures { EnteredNew self.old self.new (key_of key) stamp position }
     {
         let log = entered(Log::new(), stamp, position);
@@ -59,7 +60,7 @@ impl Tables {
             Ok(key) => key,
             Err(e) => return Err(e),
         };
-        match log_in(self.logs.as_slice(), key) {
+        match place_in(self.logs.as_slice(), &key) {
             Some(at) => {
                 if !self.logs[at].log.holds(stamp, position) {
                     self.enter_at(at, stamp, position);
@@ -67,7 +68,7 @@ impl Tables {
                 Ok(())
             }
             None => {
-                if self.logs.len() >= 8 {
+                if self.logs.len() >= LOGS {
                     return Err(Fault::new(Decline::Full));
                 }
                 self.enter_new(key, stamp, position);

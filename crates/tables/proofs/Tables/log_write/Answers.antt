@@ -1,15 +1,15 @@
 use Rattle.std.proofs.Common.{◌<◌, ◌≤◌, eqb, length, vec_items, sym, ap, ◌∙◌, rules}
 use Rattle.checkpoint.specs.Logs.{settled}
 use Rattle.checkpoint.specs.Values.{pairs, entries_of}
-use Rattle.tables.specs.declared.KeyedLog.{KeyedLog}
+use Rattle.entries.specs.declared.KeyedLog.{KeyedLog}
 use Rattle.tables.proofs.LogWriting.{written_same, written_there, written_full, written_new}
 use Rattle.tables.proofs.Tables.log_write.Goals as goal
 
-pub returns-then-len-ge8 : goal.returns-then-len-ge8
-returns-then-len-ge8 c =
+pub returns-then-len-ge-LOGS : goal.returns-then-len-ge-LOGS
+returns-then-len-ge-LOGS c =
     let t = c.args.self.now in
     let h : 8 ≤ length (vec_items t.logs) = search rules in
-    record { sound = c.requires; writes = written_full t c.args.key.now c.args.stamp c.args.position c.in-Ok.key _ c.as_slice.ensures.value c.in-Ok.ensures c.if-stamp-eq0.false c.in-None.ensures.value _ h c.new-then-len-ge8.ensures }
+    record { sound = c.requires; writes = written_full t c.args.key.now c.args.stamp c.args.position c.in-Ok.key _ c.as_slice.ensures.value c.in-Ok.ensures c.if-stamp-eq0.false c.in-None.ensures.value _ h c.new-then-len-ge-LOGS.ensures }
 
 pub returns-then-not-holds : goal.returns-then-not-holds
 returns-then-not-holds c =
@@ -29,8 +29,8 @@ returns-else-not-holds c =
           c.in-Some.at c.index.result.now c.in-Some.ensures.value e;
     }
 
-pub returns-else-len-ge8 : goal.returns-else-len-ge8
-returns-else-len-ge8 c =
+pub returns-else-len-ge-LOGS : goal.returns-else-len-ge-LOGS
+returns-else-len-ge-LOGS c =
     let t = c.args.self.now in
     let h : length (vec_items t.logs) < 8 = search rules in
     let w = written_new t c.args.key.now c.args.stamp c.args.position c.in-Ok.key _ c.as_slice.ensures.value c.in-Ok.ensures c.if-stamp-eq0.false

@@ -1,0 +1,121 @@
+// What the places of a board's tables hold, and where to find it: documents, held revisions, contents of heads, and logs
+// by key.
+#![tactic(auto)]
+
+ghost use Rattle.std.specs.Prelude.{◌≡◌, ◌<◌, Bool, length, IfSome};
+ghost use Rattle.octets.specs.Packed.{unpacked};
+ghost use Rattle.order.specs.Lists.{same};
+ghost use Rattle.keys.specs.Values.{key_of};
+ghost use Rattle.entries.specs.Searches.{place};
+ghost use Rattle.entries.specs.Entries.{is_revision, is_document, is_log};
+
+use checkpoint::Log;
+use keys::Key;
+use octets::Packed;
+use revision::{DocumentId, Mark};
+
+// A document with its last change number.
+#[derive(Clone, Copy)]
+pub struct Document {
+    pub id: DocumentId,
+    pub last: u32,
+}
+
+// A revision that is held: its tag and its parent's, its document's place, and, if it is a head, the slot of its
+// content. The wide fields stand first, so that an entry takes 24 bytes.
+#[derive(Clone, Copy)]
+pub struct HeldRevision {
+    pub tag: u64,
+    pub parent: u64,
+    pub document: u8,
+    pub generation: u8,
+    pub slot: Option<u8>,
+}
+
+// What a head keeps: its mark, and as many bytes of the body as the length says.
+#[derive(Clone, Copy)]
+pub struct Content {
+    pub mark: Mark,
+    pub length: u8,
+    pub body: [u8; 96],
+}
+
+// The log of a key.
+#[derive(Clone, Copy)]
+pub struct KeyedLog {
+    pub key: Key,
+    pub log: Log,
+}
+
+// A revision of the document at a place.
+#[derive(Clone, Copy)]
+pub struct RevisionOf {
+    pub document: u8,
+    pub generation: u8,
+    pub tag: u64,
+}
+
+// What an entry is found by.
+pub trait Finds<E> {
+    // whether an entry is the one
+    ghost finds: { Self → E → Bool };
+
+    // Whether an entry is the one.
+    fn is_of(&self, entry: &E) -> bool
+        ensures { result ≡ finds self.now entry.now };
+}
+
+// Whether two packed byte strings are the same.
+fn same_bytes(a: Packed, b: Packed) -> bool
+    ensures { result ≡ same (unpacked a) (unpacked b) }
+{
+    let ours = a.bytes();
+    let theirs = b.bytes();
+    let n = (a.length as usize).min(16);
+    let m = (b.length as usize).min(16);
+    &ours[0..n] == &theirs[0..m]
+}
+
+// A document is found by its id.
+impl Finds<Document> for DocumentId {
+    ghost finds = { λ id. is_document (unpacked id.bytes) };
+
+    fn is_of(&self, entry: &Document) -> bool {
+        same_bytes(entry.id.bytes, self.bytes)
+    }
+}
+
+// A revision is found by its document's place, its generation and its tag.
+impl Finds<HeldRevision> for RevisionOf {
+    ghost finds = { λ k. is_revision k.document k.generation k.tag };
+
+    fn is_of(&self, entry: &HeldRevision) -> bool {
+        entry.document == self.document
+            && entry.generation == self.generation
+            && entry.tag == self.tag
+    }
+}
+
+// A log is found by its key.
+impl Finds<KeyedLog> for Key {
+    ghost finds = { λ k. is_log (key_of k) };
+
+    fn is_of(&self, entry: &KeyedLog) -> bool {
+        entry.key.source == self.source
+            && entry.key.target == self.target
+            && same_bytes(entry.key.rule.prefix, self.rule.prefix)
+    }
+}
+
+// The place of the entry that a key finds.
+pub fn place_in<E, K: Finds<E>>(entries: &[E], key: &K) -> Option<usize>
+    ensures value { result ≡ place (K.finds key.now) 0 entries.now }
+    ensures within { IfSome result (λ i. i < length entries.now) }
+{
+    for (i, e) in entries.iter().enumerate() {
+        if key.is_of(e) {
+            return Some(i);
+        }
+    }
+    None
+}
