@@ -82,7 +82,7 @@ impl Log {
         ensures { Put self.old stamp position result self.new }
     {
         if stamp == 0 {
-            return Err(Fault::new(Decline::Stamp));
+            return Err(Fault::from(Decline::Stamp));
         }
         let n = self.count.min(8);
         if !replace(&mut self.entries[0..n], stamp, position) {

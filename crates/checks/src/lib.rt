@@ -26,15 +26,15 @@ mod tests {
         assert!(rt; DocumentId::read(b"~234567890123456").is_ok());
         assert_eq!(rt;
             DocumentId::read(b"!2345678901234567"),
-            Err(Fault::new(Decline::Id))
+            Err(Fault::from(Decline::Id))
         );
-        assert_eq!(rt; DocumentId::read(b""), Err(Fault::new(Decline::Id)));
-        assert_eq!(rt; DocumentId::read(b"a b"), Err(Fault::new(Decline::Id)));
-        assert_eq!(rt; DocumentId::read(b"a\x7f"), Err(Fault::new(Decline::Id)));
+        assert_eq!(rt; DocumentId::read(b""), Err(Fault::from(Decline::Id)));
+        assert_eq!(rt; DocumentId::read(b"a b"), Err(Fault::from(Decline::Id)));
+        assert_eq!(rt; DocumentId::read(b"a\x7f"), Err(Fault::from(Decline::Id)));
         let mut out = [9u8; 16];
         if let Ok(id) = DocumentId::read(b"milk") {
             assert_eq!(rt; id.lay(&mut out), Ok(4));
-            assert_eq!(rt; id.lay(&mut out[0..15]), Err(Fault::new(Decline::Memory)));
+            assert_eq!(rt; id.lay(&mut out[0..15]), Err(Fault::from(Decline::Memory)));
         }
         assert_eq!(rt;
             out,
@@ -45,12 +45,12 @@ mod tests {
     #[test]
     fn revisions(rt: HostRuntime) {
         assert!(rt; Revision::new(200, 0).is_ok());
-        assert_eq!(rt; Revision::new(201, 0), Err(Fault::new(Decline::Revision)));
-        assert_eq!(rt; Revision::new(0, 7), Err(Fault::new(Decline::Revision)));
+        assert_eq!(rt; Revision::new(201, 0), Err(Fault::from(Decline::Revision)));
+        assert_eq!(rt; Revision::new(0, 7), Err(Fault::from(Decline::Revision)));
         assert_eq!(rt; notation::read(b"2-c3"), Revision::new(2, 0xc3));
         assert_eq!(rt;
             notation::read(b"2-c3 "),
-            Err(Fault::new(Decline::Revision))
+            Err(Fault::from(Decline::Revision))
         );
         let mut out = [0u8; 20];
         assert_eq!(rt; notation::write(3, 1, &mut out), Ok(4));
@@ -84,7 +84,7 @@ mod tests {
         assert_eq!(rt; log.entry(8), None);
         assert_eq!(rt; log.put(2, 50), Ok(()));
         assert_eq!(rt; log.entry(7), Some(entry(2, 50)));
-        assert_eq!(rt; log.put(0, 1), Err(Fault::new(Decline::Stamp)));
+        assert_eq!(rt; log.put(0, 1), Err(Fault::from(Decline::Stamp)));
     }
 
     #[test]
@@ -94,12 +94,12 @@ mod tests {
         assert_eq!(rt; Key::read(&bytes), Ok(key));
         assert!(rt; key.rule.passes(b"milk"));
         assert!(rt; !key.rule.passes(b"m"));
-        assert_eq!(rt; Key::read(&bytes[0..24]), Err(Fault::new(Decline::Rule)));
-        assert_eq!(rt; Key::read(&bytes[0..4]), Err(Fault::new(Decline::Number)));
+        assert_eq!(rt; Key::read(&bytes[0..24]), Err(Fault::from(Decline::Rule)));
+        assert_eq!(rt; Key::read(&bytes[0..4]), Err(Fault::from(Decline::Number)));
         bytes[24] = 1;
-        assert_eq!(rt; Key::read(&bytes), Err(Fault::new(Decline::Rule)));
+        assert_eq!(rt; Key::read(&bytes), Err(Fault::from(Decline::Rule)));
         bytes[7] = 0;
-        assert_eq!(rt; Key::read(&bytes), Err(Fault::new(Decline::Number)));
+        assert_eq!(rt; Key::read(&bytes), Err(Fault::from(Decline::Number)));
         assert!(rt; Rule::read(b"").is_ok());
         assert!(rt; Rule::read(b"12345678901234567").is_err());
         Ok(())
@@ -130,7 +130,7 @@ mod tests {
 
     #[test]
     fn faults(rt: HostRuntime) -> Result<(), Fail> {
-        let Some(row) = Fault::new(Decline::Contradiction).entry() else {
+        let Some(row) = Fault::from(Decline::Contradiction).entry() else {
             return Err(Fail::new("34 has no row"));
         };
         assert_eq!(rt; row.number, 34);

@@ -1,7 +1,8 @@
 // Why a call is declined: the table of the decline numbers, and the fault that a decline hands out.
 #![tactic(auto)]
 
-ghost use Rattle.std.specs.Prelude.{◌≡◌, true, map, is_some};
+ghost use Rattle.std.specs.Prelude.{◌≡◌, ◌==◌, true, is_some};
+ghost use Rattle.std.specs.List.{find};
 ghost use Rattle.std.specs.Option.{option_map};
 ghost use Rattle.decline.specs.Table.{rows, found, plain, number_of};
 ghost use Rattle.decline.specs.Faults.{side_number, bare, beside, about, at, above, block_fault};
@@ -16,63 +17,39 @@ pub enum Layer {
     Device,
 }
 
-// The reasons for a decline.
-#[derive(Clone, Copy)]
+// The reasons for a decline, each with its number.
+#[derive(Clone, Copy, PartialEq, Eq, Debug)]
 pub enum Decline {
-    Id,
-    Revision,
-    Mark,
-    Body,
-    Stamp,
-    Number,
-    Twin,
-    Memory,
-    Rule,
-    Size,
-    Down,
-    Contradiction,
-    Full,
-    Absent,
-    Used,
-    Restarted,
-    Rows,
-    End,
-    NoFile,
-    Off,
-    Unreadable,
-    Beyond,
+    Id = 11,
+    Revision = 12,
+    Mark = 13,
+    Body = 14,
+    Stamp = 15,
+    Number = 16,
+    Twin = 17,
+    Memory = 18,
+    Rule = 19,
+    Size = 20,
+    Down = 31,
+    Contradiction = 34,
+    Full = 35,
+    Absent = 37,
+    Used = 38,
+    Restarted = 39,
+    Rows = 40,
+    End = 41,
+    NoFile = 42,
+    Off = 51,
+    Unreadable = 52,
+    Beyond = 53,
 }
 
-impl Decline {
-    // The number of a reason. Each stands in the table.
-    pub fn number(self) -> u8
-        ensures value { result ≡ number_of self }
-        ensures listed { is_some (found rows result) ≡ true }
-    {
-        match self {
-            Decline::Id => 11,
-            Decline::Revision => 12,
-            Decline::Mark => 13,
-            Decline::Body => 14,
-            Decline::Stamp => 15,
-            Decline::Number => 16,
-            Decline::Twin => 17,
-            Decline::Memory => 18,
-            Decline::Rule => 19,
-            Decline::Size => 20,
-            Decline::Down => 31,
-            Decline::Contradiction => 34,
-            Decline::Full => 35,
-            Decline::Absent => 37,
-            Decline::Used => 38,
-            Decline::Restarted => 39,
-            Decline::Rows => 40,
-            Decline::End => 41,
-            Decline::NoFile => 42,
-            Decline::Off => 51,
-            Decline::Unreadable => 52,
-            Decline::Beyond => 53,
-        }
+// The number of a reason. Each stands in the table.
+impl From<Decline> for u8 {
+    ghost from_gives = { λ decline n. (n ≡ number_of decline) × (is_some (found rows n) ≡ true) };
+
+    fn from(decline: Decline) -> u8 {
+        decline as u8
     }
 }
 
@@ -86,112 +63,112 @@ pub struct Entry {
 
 pub const TABLE: [Entry; 22] = [
     Entry {
-        number: 11,
+        number: Decline::Id as u8,
         layer: Layer::Peer,
         word: "id",
     },
     Entry {
-        number: 12,
+        number: Decline::Revision as u8,
         layer: Layer::Peer,
         word: "revision",
     },
     Entry {
-        number: 13,
+        number: Decline::Mark as u8,
         layer: Layer::Peer,
         word: "mark",
     },
     Entry {
-        number: 14,
+        number: Decline::Body as u8,
         layer: Layer::Peer,
         word: "body",
     },
     Entry {
-        number: 15,
+        number: Decline::Stamp as u8,
         layer: Layer::Peer,
         word: "stamp",
     },
     Entry {
-        number: 16,
+        number: Decline::Number as u8,
         layer: Layer::Peer,
         word: "number",
     },
     Entry {
-        number: 17,
+        number: Decline::Twin as u8,
         layer: Layer::Replication,
         word: "twin",
     },
     Entry {
-        number: 18,
+        number: Decline::Memory as u8,
         layer: Layer::Peer,
         word: "memory",
     },
     Entry {
-        number: 19,
+        number: Decline::Rule as u8,
         layer: Layer::Peer,
         word: "rule",
     },
     Entry {
-        number: 20,
+        number: Decline::Size as u8,
         layer: Layer::Peer,
         word: "size",
     },
     Entry {
-        number: 31,
+        number: Decline::Down as u8,
         layer: Layer::Peer,
         word: "down",
     },
     Entry {
-        number: 34,
+        number: Decline::Contradiction as u8,
         layer: Layer::Peer,
         word: "contradiction",
     },
     Entry {
-        number: 35,
+        number: Decline::Full as u8,
         layer: Layer::Peer,
         word: "full",
     },
     Entry {
-        number: 37,
+        number: Decline::Absent as u8,
         layer: Layer::Peer,
         word: "absent",
     },
     Entry {
-        number: 38,
+        number: Decline::Used as u8,
         layer: Layer::Replication,
         word: "used",
     },
     Entry {
-        number: 39,
+        number: Decline::Restarted as u8,
         layer: Layer::Replication,
         word: "restarted",
     },
     Entry {
-        number: 40,
+        number: Decline::Rows as u8,
         layer: Layer::Replication,
         word: "rows",
     },
     Entry {
-        number: 41,
+        number: Decline::End as u8,
         layer: Layer::Replication,
         word: "end",
     },
     Entry {
-        number: 42,
+        number: Decline::NoFile as u8,
         layer: Layer::Peer,
         word: "nofile",
     },
     Entry {
-        number: 51,
+        number: Decline::Off as u8,
         layer: Layer::Device,
         word: "off",
     },
     Entry {
-        number: 52,
+        number: Decline::Unreadable as u8,
         layer: Layer::Device,
         word: "unreadable",
     },
     Entry {
-        number: 53,
+        number: Decline::Beyond as u8,
         layer: Layer::Device,
         word: "beyond",
     },
@@ -199,14 +176,9 @@ pub const TABLE: [Entry; 22] = [
 
 // The first row of a table with a number, or none.
 fn find(table: &[Entry], number: u8) -> Option<Entry>
-    ensures { option_map plain result ≡ found (map plain table.now) number }
+    ensures { result ≡ find (λ e. e.number == number) table.now }
 {
-    for e in table {
-        if e.number == number {
-            return Some(*e);
-        }
-    }
-    None
+    table.iter().copied().find(|e| e.number == number)
 }
 
 // The row of a number, or none.
@@ -219,21 +191,17 @@ pub fn lookup(number: u8) -> Option<Entry>
 // The side of a replication that a decline comes from.
 #[derive(Clone, Copy, PartialEq, Eq, Debug)]
 pub enum Side {
-    Neither,
-    Source,
-    Target,
+    Neither = 0,
+    Source = 1,
+    Target = 2,
 }
 
-impl Side {
-    // The number that stands for a side in a fault: 0 neither, 1 source, 2 target.
-    pub fn number(self) -> u8
-        ensures { result ≡ side_number self }
-    {
-        match self {
-            Side::Neither => 0,
-            Side::Source => 1,
-            Side::Target => 2,
-        }
+// The number that stands for a side in a fault.
+impl From<Side> for u8 {
+    ghost from_gives = { λ side n. n ≡ side_number side };
+
+    fn from(side: Side) -> u8 {
+        side as u8
     }
 }
 
@@ -248,7 +216,7 @@ impl BlockFault {
     pub fn new(decline: Decline, block: u32) -> BlockFault
         ensures { result ≡ block_fault (number_of decline) block }
     {
-        let number = decline.number();
+        let number = u8::from(decline);
         BlockFault { number, block }
     }
 }
@@ -256,6 +224,7 @@ impl BlockFault {
 // What a peer or a replication declines, in plain numbers: the number; the side (0 neither, 1 source, 2 target); the
 // document, of length 0 if there is none; the block, all ones if there is none; and the device's fault below, whole.
 #[derive(Clone, Copy, PartialEq, Eq, Debug)]
+// Kept: a fault is plain numbers, by a rule of the project, so number, side and document are no enums here.
 pub struct Fault {
     pub number: u8,
     pub side: u8,
@@ -264,14 +233,14 @@ pub struct Fault {
     pub below: BlockFault,
 }
 
-impl Fault {
-    // A fault of which nothing but the reason is known.
-    pub fn new(decline: Decline) -> Fault
-        ensures { result ≡ bare (number_of decline) }
-    {
+// A fault of which nothing but the reason is known.
+impl From<Decline> for Fault {
+    ghost from_gives = { λ decline fault. fault ≡ bare (number_of decline) };
+
+    fn from(decline: Decline) -> Fault {
         Fault {
-            number: decline.number(),
-            side: Side::Neither.number(),
+            number: u8::from(decline),
+            side: u8::from(Side::Neither),
             document: Packed {
                 first: 0,
                 second: 0,
@@ -284,13 +253,15 @@ impl Fault {
             },
         }
     }
+}
 
+impl Fault {
     // The same fault, from a side of a replication.
     pub fn beside(self, side: Side) -> Fault
         ensures { result ≡ beside (side_number side) self }
     {
         Fault {
-            side: side.number(),
+            side: u8::from(side),
             ..self
         }
     }

@@ -22,6 +22,11 @@ RuleRead bs (Err e) = (good_rule bs ≡ false) × (e ≡ bare 19)
 abbrev pub key_of : Key → Model.Key
 key_of k = record { source = k.source; target = k.target; rule = prefix_of k.rule }
 
+-- a peer's number in a key: declined 16 for 0
+abbrev pub NumberRead : ℕ → Result ℕ Fault → Type 0
+NumberRead n (Ok m) = (n ≢ 0) × (m ≡ n)
+NumberRead n (Err e) = (n ≡ 0) × (e ≡ bare 16)
+
 -- making a key: declined 16 for a number 0, then 19 for a bad prefix
 abbrev pub KeyMade : ℕ → ℕ → List ℕ → Result Key Fault → Type 0
 KeyMade s t bs (Ok k) = (s ≢ 0) × (t ≢ 0) × (k.source ≡ s) × (k.target ≡ t) × RuleRead bs (Ok k.rule)

@@ -4,10 +4,10 @@
 ghost use Rattle.std.specs.Prelude.{◌≡◌, ℕ, ◌<◌, ◌≤◌, ◌++◌, length, take, drop};
 ghost use Rattle.octets.specs.BigEndian.{number};
 ghost use Rattle.keys.specs.Keys.{passes, key_bytes, key_in};
-ghost use Rattle.keys.specs.Values.{RuleRead, KeyMade, FormRead, KeyRead, prefix_of, key_of};
+ghost use Rattle.keys.specs.Values.{RuleRead, KeyMade, FormRead, KeyRead, prefix_of, key_of, NumberRead};
 
 use decline::{Decline, Fault};
-use octets::{Packed, lay, number_of};
+use octets::{Packed, number_of};
 use revision::id_bytes;
 
 // A rule in plain numbers: a prefix of 0 to 16 bytes.
@@ -22,12 +22,10 @@ impl Rule {
         ensures { RuleRead prefix.now result }
     {
         if !id_bytes(prefix) {
-            return Err(Fault::new(Decline::Rule));
+            return Err(Fault::from(Decline::Rule));
         }
-        match Packed::read(prefix) {
-            Some(prefix) => Ok(Rule { prefix }),
-            None => Err(Fault::new(Decline::Rule)),
-        }
+        let prefix = Packed::read(prefix).ok_or(Decline::Rule)?;
+        Ok(Rule { prefix })
     }
 
     // Whether an id begins with the prefix.
@@ -58,6 +56,16 @@ fn number_at(bytes: &[u8], from: usize) -> u32
     number_of(part(bytes, from, 4)) as u32
 }
 
+// A peer's number as it stands in a key; 0 is declined 16.
+fn peer_number(number: u32) -> Result<u32, Fault>
+    ensures { NumberRead number result }
+{
+    if number == 0 {
+        return Err(Fault::from(Decline::Number));
+    }
+    Ok(number)
+}
+
 // The key of a replication log: the numbers of source and target, and the rule.
 #[derive(Clone, Copy, PartialEq, Eq, Debug)]
 pub struct Key {
@@ -71,12 +79,8 @@ impl Key {
     pub fn new(source: u32, target: u32, prefix: &[u8]) -> Result<Key, Fault>
         ensures { KeyMade source target prefix.now result }
     {
-        if source == 0 {
-            return Err(Fault::new(Decline::Number));
-        }
-        if target == 0 {
-            return Err(Fault::new(Decline::Number));
-        }
+        let source = peer_number(source)?;
+        let target = peer_number(target)?;
         let rule = Rule::read(prefix)?;
         Ok(Key {
             source,
@@ -92,7 +96,7 @@ impl Key {
         let prefix = self.rule.prefix.bytes();
         let n = (self.rule.prefix.length as usize).min(16);
         let mut filled = [0u8; 16];
-        lay(&mut filled, &prefix[0..n]);
+        filled[0..n].copy_from_slice(&prefix[0..n]);
         let mut out = [0u8; 25];
         out[0..4].copy_from_slice(&self.source.to_be_bytes());
         out[4..8].copy_from_slice(&self.target.to_be_bytes());
@@ -107,12 +111,9 @@ impl Key {
         ensures { FormRead bytes.now result }
     {
         if bytes.len() != 25 {
-            return Err(Fault::new(Decline::Rule));
+            return Err(Fault::from(Decline::Rule));
         }
-        let rule = match Rule::read(part(bytes, 9, bytes[8])) {
-            Ok(rule) => rule,
-            Err(e) => return Err(e),
-        };
+        let rule = Rule::read(part(bytes, 9, bytes[8]))?;
         let key = Key {
             source,
             target,
@@ -120,7 +121,7 @@ impl Key {
         };
         let back = key.bytes();
         if bytes != &back[0..25] {
-            return Err(Fault::new(Decline::Rule));
+            return Err(Fault::from(Decline::Rule));
         }
         Ok(key)
     }
@@ -129,14 +130,8 @@ impl Key {
     pub fn read(bytes: &[u8]) -> Result<Key, Fault>
         ensures { KeyRead bytes.now result }
     {
-        let source = number_at(bytes, 0);
-        let target = number_at(bytes, 4);
-        if source == 0 {
-            return Err(Fault::new(Decline::Number));
-        }
-        if target == 0 {
-            return Err(Fault::new(Decline::Number));
-        }
+        let source = peer_number(number_at(bytes, 0))?;
+        let target = peer_number(number_at(bytes, 4))?;
         Key::with_rule(source, target, bytes)
     }
 }

@@ -10,12 +10,21 @@ mod tests {
     use decline::{Decline, Fault};
     use memory::{Memory, Unmade};
     use peer::{Peer, WritablePeer};
+    use revision::{Mark, Revision};
     use std::alloc::Global;
     use std::process::Abort;
     use std::test::Fail;
 
     // The tag that is the byte '1' eight times.
     const ONES: u64 = 0x3131_3131_3131_3131;
+
+    // The revision of a generation with that tag.
+    fn ones(generation: u8) -> Revision {
+        Revision {
+            generation,
+            tag: ONES,
+        }
+    }
 
     // An empty peer.
     fn empty(heap: Global) -> Result<Memory, Fail>
@@ -114,7 +123,7 @@ mod tests {
         write_all(&rt, &mut peer, b'A', b'a', 1)?;
         assert_eq!(rt;
             write(&mut peer, b'a', 1, b'1'),
-            Err(Fault::new(Decline::Full))
+            Err(Fault::from(Decline::Full))
         );
         assert_eq!(rt; write(&mut peer, b'A', 2, b'1'), Ok(1));
         Ok(())
@@ -126,7 +135,7 @@ mod tests {
         fill(&rt, &mut peer)?;
         assert_eq!(rt;
             write(&mut peer, b'F', 25, b'1'),
-            Err(Fault::new(Decline::Full))
+            Err(Fault::from(Decline::Full))
         );
         assert_eq!(rt; write(&mut peer, b'F', 24, b'1'), Ok(0));
         assert_eq!(rt; write(&mut peer, b'A', 7, b'1'), Ok(0));
@@ -139,11 +148,11 @@ mod tests {
         write_roots(&rt, &mut peer, 64)?;
         assert_eq!(rt;
             write(&mut peer, b'A', 1, 64),
-            Err(Fault::new(Decline::Full))
+            Err(Fault::from(Decline::Full))
         );
         assert_eq!(rt;
             write(&mut peer, b'B', 1, 1),
-            Err(Fault::new(Decline::Full))
+            Err(Fault::from(Decline::Full))
         );
         assert_eq!(rt; write(&mut peer, b'A', 2, 63), Ok(1));
         assert_eq!(rt; peer.head_count(b"A"), Ok(64));
@@ -153,7 +162,7 @@ mod tests {
     #[test]
     fn sizes(rt: HostRuntime) -> Result<(), Fail> {
         let mut peer = empty(rt.alloc())?;
-        let revision = Fault::new(Decline::Revision);
+        let revision = Fault::from(Decline::Revision);
         assert_eq!(rt; write(&mut peer, b'A', 200, b'1'), Ok(1));
         assert_eq!(rt; write(&mut peer, b'A', 201, b'1'), Err(revision));
         assert_eq!(rt; write(&mut peer, b'A', 0, b'1'), Err(revision));
@@ -161,7 +170,7 @@ mod tests {
         assert_eq!(rt; peer.path_write(b"B", 2, &[1; 24], 0, b""), Err(revision));
         assert_eq!(rt;
             peer.path_write(b"B", 1, &[1; 8], 0, &[2; 97]),
-            Err(Fault::new(Decline::Body))
+            Err(Fault::from(Decline::Body))
         );
         assert_eq!(rt; peer.path_write(b"B", 1, &[1; 8], 0, &[2; 96]), Ok(1));
         Ok(())
@@ -172,13 +181,13 @@ mod tests {
         let mut peer = empty(rt.alloc())?;
         assert_eq!(rt;
             peer.path_write(b"12345678901234567", 1, b"11111111", 0, b""),
-            Err(Fault::new(Decline::Id))
+            Err(Fault::from(Decline::Id))
         );
         assert_eq!(rt;
             peer.path_write(b"1234567890123456", 1, b"11111111", 0, b""),
             Ok(1)
         );
-        assert_eq!(rt; peer.is_held(b"1234567890123456", 1, ONES), Ok(true));
+        assert_eq!(rt; peer.is_held(b"1234567890123456", ones(1)), Ok(true));
         Ok(())
     }
 
@@ -186,7 +195,7 @@ mod tests {
     fn logs(rt: HostRuntime) -> Result<(), Fail> {
         let mut peer = empty(rt.alloc())?;
         write_logs(&rt, &mut peer, 9)?;
-        let full = Fault::new(Decline::Full);
+        let full = Fault::from(Decline::Full);
         assert_eq!(rt; peer.log_write(&key(9), 5, 0), Err(full));
         assert_eq!(rt; peer.log_write(&key(8), 6, 7), Ok(()));
         assert_eq!(rt; peer.log_write(&key(1), 5, 0), Ok(()));
@@ -204,19 +213,19 @@ mod tests {
         let mut peer = empty(rt.alloc())?;
         assert_eq!(rt;
             peer.path_write(b"", 0, b"11111111", 2, &[2; 97]),
-            Err(Fault::new(Decline::Id))
+            Err(Fault::from(Decline::Id))
         );
         assert_eq!(rt;
             peer.path_write(b"A", 0, b"11111111", 2, &[2; 97]),
-            Err(Fault::new(Decline::Revision))
+            Err(Fault::from(Decline::Revision))
         );
         assert_eq!(rt;
             peer.path_write(b"A", 1, b"11111111", 2, &[2; 97]),
-            Err(Fault::new(Decline::Mark))
+            Err(Fault::from(Decline::Mark))
         );
         assert_eq!(rt;
             peer.path_write(b"A", 1, b"11111111", 1, &[2; 97]),
-            Err(Fault::new(Decline::Body))
+            Err(Fault::from(Decline::Body))
         );
         assert_eq!(rt; peer.path_write(b"A", 1, b"11111111", 1, &[2; 96]), Ok(1));
         Ok(())
@@ -229,23 +238,23 @@ mod tests {
         fill(&rt, &mut peer)?;
         assert_eq!(rt;
             peer.path_write(b"F", 3, b"999999991111111177777777", 0, b""),
-            Err(Fault::new(Decline::Contradiction))
+            Err(Fault::from(Decline::Contradiction))
         );
         assert_eq!(rt;
             peer.path_write(b"F", 3, b"999999998888888877777777", 0, b""),
-            Err(Fault::new(Decline::Full))
+            Err(Fault::from(Decline::Full))
         );
         Ok(())
     }
 
     #[test]
     fn making(rt: HostRuntime) {
-        let stamp = Some(Fault::new(Decline::Stamp));
+        let stamp = Some(Fault::from(Decline::Stamp));
         assert_eq!(rt; refusal(Memory::new(rt.alloc(), 0, 0)), stamp);
         assert_eq!(rt; refusal(Memory::new(rt.alloc(), 1, 0)), stamp);
         assert_eq!(rt;
             refusal(Memory::new(rt.alloc(), 0, 1)),
-            Some(Fault::new(Decline::Number))
+            Some(Fault::from(Decline::Number))
         );
         assert_eq!(rt; refusal(Memory::new(rt.alloc(), 1, 1)), None);
     }
@@ -257,9 +266,9 @@ mod tests {
         write_logs(&rt, &mut peer, 2)?;
         assert_eq!(rt; peer.wake(7), Ok(()));
         assert_eq!(rt; peer.start_stamp(), Ok(7));
-        assert_eq!(rt; peer.wake(0), Err(Fault::new(Decline::Stamp)));
+        assert_eq!(rt; peer.wake(0), Err(Fault::from(Decline::Stamp)));
         assert_eq!(rt; peer.start_stamp(), Ok(7));
-        assert_eq!(rt; peer.is_held(b"A", 2, ONES), Ok(true));
+        assert_eq!(rt; peer.is_held(b"A", ones(2)), Ok(true));
         let entry = Entry {
             stamp: 5,
             position: 0,
@@ -274,15 +283,15 @@ mod tests {
         assert_eq!(rt; write(&mut peer, b'A', 200, b'1'), Ok(1));
         let mut short = [9u8; 1599];
         assert_eq!(rt;
-            peer.tags_of(b"A", 3, ONES, &mut short),
-            Err(Fault::new(Decline::Memory))
+            peer.tags_of(b"A", ones(3), &mut short),
+            Err(Fault::from(Decline::Memory))
         );
         assert!(rt; short == [9; 1599]);
         let mut out = [9u8; 1600];
-        assert_eq!(rt; peer.tags_of(b"A", 3, ONES, &mut out), Ok(24));
+        assert_eq!(rt; peer.tags_of(b"A", ones(3), &mut out), Ok(24));
         assert!(rt; out.starts_with(&[b'1'; 24]));
         assert!(rt; out.ends_with(&[9; 1576]));
-        assert_eq!(rt; peer.tags_of(b"A", 200, ONES, &mut out), Ok(1600));
+        assert_eq!(rt; peer.tags_of(b"A", ones(200), &mut out), Ok(1600));
         assert!(rt; out == [b'1'; 1600]);
         Ok(())
     }
@@ -294,17 +303,17 @@ mod tests {
         assert_eq!(rt; peer.path_write(b"B", 1, b"11111111", 1, &[2; 96]), Ok(1));
         let mut short = [9u8; 95];
         assert_eq!(rt;
-            peer.body_of(b"A", 1, ONES, &mut short).err(),
-            Some(Fault::new(Decline::Memory))
+            peer.body_of(b"A", ones(1), &mut short).err(),
+            Some(Fault::from(Decline::Memory))
         );
         assert!(rt; short == [9; 95]);
         let mut out = [9u8; 96];
-        let milk = peer.body_of(b"A", 1, ONES, &mut out)?;
-        assert_eq!(rt; (milk.mark, milk.length), (0, 4));
+        let milk = peer.body_of(b"A", ones(1), &mut out)?;
+        assert_eq!(rt; (milk.mark, milk.length), (Mark::Live, 4));
         assert!(rt; out.starts_with(b"milk"));
         assert!(rt; out.ends_with(&[9; 92]));
-        let whole = peer.body_of(b"B", 1, ONES, &mut out)?;
-        assert_eq!(rt; (whole.mark, whole.length), (1, 96));
+        let whole = peer.body_of(b"B", ones(1), &mut out)?;
+        assert_eq!(rt; (whole.mark, whole.length), (Mark::Deleted, 96));
         assert!(rt; out == [2; 96]);
         Ok(())
     }

@@ -32,10 +32,10 @@ impl Memory {
         ensures { Made number stamp result }
     {
         if stamp == 0 {
-            return Err(Unmade::Declined(Fault::new(Decline::Stamp)));
+            return Err(Unmade::Declined(Fault::from(Decline::Stamp)));
         }
         if number == 0 {
-            return Err(Unmade::Declined(Fault::new(Decline::Number)));
+            return Err(Unmade::Declined(Fault::from(Decline::Number)));
         }
         match Tables::new(heap) {
             Ok(tables) => Ok(Memory {
@@ -75,28 +75,16 @@ impl Peer for Memory {
         reads::head_at(&self.tables, id, i)
     }
 
-    fn is_held(&mut self, id: &[u8], generation: u8, tag: u64) -> Result<bool, Fault> {
-        reads::is_held(&self.tables, id, generation, tag)
+    fn is_held(&mut self, id: &[u8], revision: Revision) -> Result<bool, Fault> {
+        reads::is_held(&self.tables, id, revision)
     }
 
-    fn tags_of(
-        &mut self,
-        id: &[u8],
-        generation: u8,
-        tag: u64,
-        out: &mut [u8],
-    ) -> Result<usize, Fault> {
-        reads::tags_of(&self.tables, id, generation, tag, out)
+    fn tags_of(&mut self, id: &[u8], revision: Revision, out: &mut [u8]) -> Result<usize, Fault> {
+        reads::tags_of(&self.tables, id, revision, out)
     }
 
-    fn body_of(
-        &mut self,
-        id: &[u8],
-        generation: u8,
-        tag: u64,
-        out: &mut [u8],
-    ) -> Result<Body, Fault> {
-        reads::body_of(&self.tables, id, generation, tag, out)
+    fn body_of(&mut self, id: &[u8], revision: Revision, out: &mut [u8]) -> Result<Body, Fault> {
+        reads::body_of(&self.tables, id, revision, out)
     }
 
     fn log_entry(&mut self, key: &[u8], i: u32) -> Result<Option<Entry>, Fault> {
@@ -113,7 +101,7 @@ impl Peer for Memory {
 
     fn wake(&mut self, stamp: u64) -> Result<(), Fault> {
         if stamp == 0 {
-            return Err(Fault::new(Decline::Stamp));
+            return Err(Fault::from(Decline::Stamp));
         }
         self.stamp = stamp;
         Ok(())

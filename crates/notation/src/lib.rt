@@ -63,7 +63,7 @@ fn parse(text: &[u8]) -> Option<Revision>
 pub fn read(text: &[u8]) -> Result<Revision, Fault>
     ensures { Reads text.now result }
 {
-    parse(text).ok_or(Fault::new(Decline::Revision))
+    parse(text).ok_or(Fault::from(Decline::Revision))
 }
 
 // The lower-case byte of a digit.
@@ -136,10 +136,10 @@ pub fn write(generation: u8, tag: u64, out: &mut [u8]) -> Result<usize, Fault>
     ensures { Writes generation tag out.old out.new result }
 {
     if !is_generation(generation as u64) {
-        return Err(Fault::new(Decline::Revision));
+        return Err(Fault::from(Decline::Revision));
     }
     if out.len() < LONGEST {
-        return Err(Fault::new(Decline::Memory));
+        return Err(Fault::from(Decline::Memory));
     }
     Ok(lay_text(generation, tag, out))
 }

@@ -6,6 +6,7 @@ use Rattle.decline.specs.Faults.{bare, above, block_fault}
 use Rattle.revision.specs.declared.Revision.{Revision}
 use Rattle.revision.specs.Ids.{IsId}
 use Rattle.revision.specs.Trees.{Content}
+use Rattle.revision.specs.Values.{mark_number}
 use Rattle.peer.specs.declared.Row as Code
 use Rattle.peer.specs.declared.Body.{Body}
 use Rattle.peer.specs.Records.{Row}
@@ -73,4 +74,4 @@ body_bytes c = c.body
 
 -- a head's mark, and how many bytes its body fills
 abbrev pub TellsBody : Body → Content → Type 0
-TellsBody b c = (b.mark ≡ c.mark) × (b.length ≡ length c.body)
+TellsBody b c = (mark_number b.mark ≡ c.mark) × (b.length ≡ length c.body)

@@ -14,7 +14,7 @@ ghost use Rattle.std.proofs.Common.{rules};
 
 use checkpoint::Entry;
 use decline::Fault;
-use revision::{DocumentId, Revision};
+use revision::{DocumentId, Mark, Revision};
 
 // A row of the feed: a document, and its last change number.
 #[derive(Clone, Copy)]
@@ -23,10 +23,10 @@ pub struct Row {
     pub change: u32,
 }
 
-// A head's mark, 0 live or 1 deleted, and the length of its body in lent memory.
+// A head's mark, and the length of its body in lent memory.
 #[derive(Clone, Copy)]
 pub struct Body {
-    pub mark: u8,
+    pub mark: Mark,
     pub length: usize,
 }
 
@@ -35,6 +35,7 @@ pub trait Peer {
     ghost state: { Self → State };
 
     // the condition that its own calls keep
+    // Kept: by a rule of the project this is a condition of the calls and no invariant of a type.
     ghost kept: { Self → Type 0 };
 
     // Its number, never 0.
@@ -68,35 +69,23 @@ pub trait Peer {
         ensures calls { Replies (Function.head_at id.now i) (perhaps revision_of) (state self.old) result (state self.new) };
 
     // Whether a revision is held.
-    fn is_held(&mut self, id: &[u8], generation: u8, tag: u64) -> Result<bool, Fault>
+    fn is_held(&mut self, id: &[u8], revision: Revision) -> Result<bool, Fault>
         requires { kept self.old }
         ensures keeps { kept self.new }
-        ensures calls { Replies (Function.is_held id.now generation tag) plain (state self.old) result (state self.new) };
+        ensures calls { Replies (Function.is_held id.now revision.generation revision.tag) plain (state self.old) result (state self.new) };
 
     // The tags of a revision's line, 8 bytes each, generation 1 first, into memory of at least 1,600 bytes; how many
     // bytes they are.
-    fn tags_of(
-        &mut self,
-        id: &[u8],
-        generation: u8,
-        tag: u64,
-        out: &mut [u8],
-    ) -> Result<usize, Fault>
+    fn tags_of(&mut self, id: &[u8], revision: Revision, out: &mut [u8]) -> Result<usize, Fault>
         requires { kept self.old }
         ensures keeps { kept self.new }
-        ensures calls { Fills (Function.tags_of id.now generation tag (length out.old)) in_eights (Fits in_eights) (state self.old) out.old result (state self.new) out.new };
+        ensures calls { Fills (Function.tags_of id.now revision.generation revision.tag (length out.old)) in_eights (Fits in_eights) (state self.old) out.old result (state self.new) out.new };
 
     // A head's mark, and its body into memory of at least 96 bytes.
-    fn body_of(
-        &mut self,
-        id: &[u8],
-        generation: u8,
-        tag: u64,
-        out: &mut [u8],
-    ) -> Result<Body, Fault>
+    fn body_of(&mut self, id: &[u8], revision: Revision, out: &mut [u8]) -> Result<Body, Fault>
         requires { kept self.old }
         ensures keeps { kept self.new }
-        ensures calls { Fills (Function.body_of id.now generation tag (length out.old)) body_bytes TellsBody (state self.old) out.old result (state self.new) out.new };
+        ensures calls { Fills (Function.body_of id.now revision.generation revision.tag (length out.old)) body_bytes TellsBody (state self.old) out.old result (state self.new) out.new };
 
     // Entry i of the log of a key, 0 the newest, or none.
     fn log_entry(&mut self, key: &[u8], i: u32) -> Result<Option<Entry>, Fault>
@@ -129,6 +118,8 @@ pub trait Peer {
 // A peer that paths can be written to: a target needs this, a source does not.
 pub trait WritablePeer: Peer {
     // Writes the path of a revision: the tags of its line, its mark and its body; 1 if that changes something, else 0.
+    // Kept: by a rule of the project the answers are the numbers 0 and 1, and each part comes as a host has it, so that a
+    // bad one is declined by its own number; a struct of the five would be taken apart at once.
     fn path_write(
         &mut self,
         id: &[u8],
@@ -192,28 +183,16 @@ impl<P: Peer> Peer for Guard<P> {
         self.peer.head_at(id, i)
     }
 
-    fn is_held(&mut self, id: &[u8], generation: u8, tag: u64) -> Result<bool, Fault> {
-        self.peer.is_held(id, generation, tag)
+    fn is_held(&mut self, id: &[u8], revision: Revision) -> Result<bool, Fault> {
+        self.peer.is_held(id, revision)
     }
 
-    fn tags_of(
-        &mut self,
-        id: &[u8],
-        generation: u8,
-        tag: u64,
-        out: &mut [u8],
-    ) -> Result<usize, Fault> {
-        self.peer.tags_of(id, generation, tag, out)
+    fn tags_of(&mut self, id: &[u8], revision: Revision, out: &mut [u8]) -> Result<usize, Fault> {
+        self.peer.tags_of(id, revision, out)
     }
 
-    fn body_of(
-        &mut self,
-        id: &[u8],
-        generation: u8,
-        tag: u64,
-        out: &mut [u8],
-    ) -> Result<Body, Fault> {
-        self.peer.body_of(id, generation, tag, out)
+    fn body_of(&mut self, id: &[u8], revision: Revision, out: &mut [u8]) -> Result<Body, Fault> {
+        self.peer.body_of(id, revision, out)
     }
 
     fn log_entry(&mut self, key: &[u8], i: u32) -> Result<Option<Entry>, Fault> {

@@ -40,12 +40,12 @@ fn mark_in(text: &[u8]) -> Result<Mark, Fault>
     ensures { MarkField text.now result }
 {
     let [digit] = text else {
-        return Err(Fault::new(Decline::Mark));
+        return Err(Fault::from(Decline::Mark));
     };
     match *digit {
         b'0' => Ok(Mark::Live),
         b'1' => Ok(Mark::Deleted),
-        _ => Err(Fault::new(Decline::Mark)),
+        _ => Err(Fault::from(Decline::Mark)),
     }
 }
 
@@ -69,7 +69,7 @@ fn price_in(line: &[u8]) -> Result<Price<'_>, Fault>
         Err(e) => return Err(e),
     };
     if body.len() > 96 {
-        return Err(Fault::new(Decline::Body));
+        return Err(Fault::from(Decline::Body));
     }
     let head = Head { mark, revision };
     Ok(Price {
@@ -116,13 +116,13 @@ fn is_new(prices: &[Price<'_>], price: Price<'_>) -> Result<bool, Fault>
     match find(prices, price.product, price.head.revision) {
         Some(i) => {
             if !says_same(&prices[i], &price) {
-                return Err(Fault::new(Decline::Contradiction));
+                return Err(Fault::from(Decline::Contradiction));
             }
             Ok(false)
         }
         None => {
             if prices.len() >= ROOM {
-                return Err(Fault::new(Decline::Full));
+                return Err(Fault::from(Decline::Full));
             }
             Ok(true)
         }

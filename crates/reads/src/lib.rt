@@ -82,12 +82,12 @@ pub fn row_after(tables: &Tables, n: u32) -> Option<Row>
 }
 
 // Whether a revision is held.
-pub fn is_held(tables: &Tables, id: &[u8], generation: u8, tag: u64) -> Result<bool, Fault>
+pub fn is_held(tables: &Tables, id: &[u8], revision: Revision) -> Result<bool, Fault>
     requires { Sound tables.now }
-    ensures { Reads (Function.is_held id.now generation tag) plain tables.now result }
+    ensures { Reads (Function.is_held id.now revision.generation revision.tag) plain tables.now result }
 {
     let id = DocumentId::read(id)?;
-    let revision = Revision::new(generation, tag)?;
+    let revision = Revision::new(revision.generation, revision.tag)?;
     match place_of(tables, id, revision.generation, revision.tag) {
         Some(_) => Ok(true),
         None => Ok(false),
@@ -116,7 +116,7 @@ fn lay_body(content: &Content, out: &mut [u8]) -> Body
     let n = (content.length as usize).min(96);
     lay(out, &content.body[0..n]);
     Body {
-        mark: content.mark.number(),
+        mark: content.mark,
         length: n,
     }
 }
@@ -177,22 +177,21 @@ fn lay_line(tables: &Tables, document: u8, generation: u8, tag: u64, out: &mut [
 pub fn tags_of(
     tables: &Tables,
     id: &[u8],
-    generation: u8,
-    tag: u64,
+    revision: Revision,
     out: &mut [u8],
 ) -> Result<usize, Fault>
     requires { Sound tables.now }
-    ensures { ReadsInto (Function.tags_of id.now generation tag (length out.old)) in_eights (Fits in_eights) tables.now out.old result out.new }
+    ensures { ReadsInto (Function.tags_of id.now revision.generation revision.tag (length out.old)) in_eights (Fits in_eights) tables.now out.old result out.new }
 {
     let id = DocumentId::read(id)?;
-    let revision = Revision::new(generation, tag)?;
+    let revision = Revision::new(revision.generation, revision.tag)?;
     if out.len() < 1600 {
-        return Err(Fault::new(Decline::Memory));
+        return Err(Fault::from(Decline::Memory));
     }
-    let Some(document) = holder(tables, id, generation, tag) else {
-        return Err(Fault::new(Decline::Absent));
+    let Some(document) = holder(tables, id, revision.generation, revision.tag) else {
+        return Err(Fault::from(Decline::Absent));
     };
-    lay_line(tables, document, generation, tag, out);
+    lay_line(tables, document, revision.generation, revision.tag, out);
     Ok(8 * revision.generation as usize)
 }
 
@@ -209,20 +208,19 @@ fn head_slot(tables: &Tables, id: DocumentId, generation: u8, tag: u64) -> Optio
 pub fn body_of(
     tables: &Tables,
     id: &[u8],
-    generation: u8,
-    tag: u64,
+    revision: Revision,
     out: &mut [u8],
 ) -> Result<Body, Fault>
     requires { Sound tables.now }
-    ensures { ReadsInto (Function.body_of id.now generation tag (length out.old)) body_bytes TellsBody tables.now out.old result out.new }
+    ensures { ReadsInto (Function.body_of id.now revision.generation revision.tag (length out.old)) body_bytes TellsBody tables.now out.old result out.new }
 {
     let id = DocumentId::read(id)?;
-    let revision = Revision::new(generation, tag)?;
+    let revision = Revision::new(revision.generation, revision.tag)?;
     if out.len() < 96 {
-        return Err(Fault::new(Decline::Memory));
+        return Err(Fault::from(Decline::Memory));
     }
     let Some(slot) = head_slot(tables, id, revision.generation, revision.tag) else {
-        return Err(Fault::new(Decline::Absent));
+        return Err(Fault::from(Decline::Absent));
     };
     let contents = tables.contents.as_slice();
     Ok(lay_body(&contents[slot as usize], out))

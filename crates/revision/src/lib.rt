@@ -45,14 +45,14 @@ impl DocumentId {
         ensures { IdRead bytes.now result }
     {
         if bytes.len() == 0 {
-            return Err(Fault::new(Decline::Id));
+            return Err(Fault::from(Decline::Id));
         }
         if !id_bytes(bytes) {
-            return Err(Fault::new(Decline::Id));
+            return Err(Fault::from(Decline::Id));
         }
         match Packed::read(bytes) {
             Some(bytes) => Ok(DocumentId { bytes }),
-            None => Err(Fault::new(Decline::Id)),
+            None => Err(Fault::from(Decline::Id)),
         }
     }
 
@@ -77,10 +77,10 @@ impl DocumentId {
         ensures { IdLaid self.bytes out.old result out.new }
     {
         if !self.is_id() {
-            return Err(Fault::new(Decline::Id));
+            return Err(Fault::from(Decline::Id));
         }
         if out.len() < 16 {
-            return Err(Fault::new(Decline::Memory));
+            return Err(Fault::from(Decline::Memory));
         }
         let all = self.bytes.bytes();
         let n = (self.bytes.length as usize).min(16);
@@ -102,10 +102,10 @@ impl Revision {
         ensures { RevisionMade generation tag result }
     {
         if generation == 0 {
-            return Err(Fault::new(Decline::Revision));
+            return Err(Fault::from(Decline::Revision));
         }
         if generation > 200 {
-            return Err(Fault::new(Decline::Revision));
+            return Err(Fault::from(Decline::Revision));
         }
         Ok(Revision { generation, tag })
     }
@@ -126,7 +126,7 @@ impl Mark {
         match number {
             0 => Ok(Mark::Live),
             1 => Ok(Mark::Deleted),
-            _ => Err(Fault::new(Decline::Mark)),
+            _ => Err(Fault::from(Decline::Mark)),
         }
     }
 

@@ -112,14 +112,14 @@ fn path_length(generation: u8, tags: &[u8]) -> Result<usize, Fault>
     ensures { PathLength generation tags.now result }
 {
     if generation == 0 {
-        return Err(Fault::new(Decline::Revision));
+        return Err(Fault::from(Decline::Revision));
     }
     if generation > 200 {
-        return Err(Fault::new(Decline::Revision));
+        return Err(Fault::from(Decline::Revision));
     }
     let n = generation as usize;
     if tags.len() != 8 * n {
-        return Err(Fault::new(Decline::Revision));
+        return Err(Fault::from(Decline::Revision));
     }
     Ok(n)
 }
@@ -426,7 +426,7 @@ impl Tables {
         ensures { Wrote self.old id document (tag_at tags.now) n (content (mark_number mark) body.now) result self.new }
     {
         let Some(newest) = self.newest_held(document as u8, tags, n) else {
-            return Err(Fault::new(Decline::Contradiction));
+            return Err(Fault::from(Decline::Contradiction));
         };
         let k = newest.generation;
         let slot = self.slot_at(newest.place);
@@ -434,10 +434,10 @@ impl Tables {
             if self.keeps(slot, mark, body) {
                 return Ok(0);
             }
-            return Err(Fault::new(Decline::Contradiction));
+            return Err(Fault::from(Decline::Contradiction));
         }
         if !self.has_room(document, n - k, slot) {
-            return Err(Fault::new(Decline::Full));
+            return Err(Fault::from(Decline::Full));
         }
         let content = content_with(mark, body);
         self.extend(id, document, tags, k, n, newest.place, slot, content);
@@ -483,7 +483,7 @@ impl Tables {
         let n = path_length(generation, tags)?;
         let mark = Mark::read(mark)?;
         if body.len() > 96 {
-            return Err(Fault::new(Decline::Body));
+            return Err(Fault::from(Decline::Body));
         }
         self.write_good(id, tags, n, mark, body)
     }

@@ -54,7 +54,7 @@ impl Tables {
         ensures writes { Writes (Function.log_write key.now stamp position) plain (entry (note_given key.now stamp position)) self.old result self.new }
     {
         if stamp == 0 {
-            return Err(Fault::new(Decline::Stamp));
+            return Err(Fault::from(Decline::Stamp));
         }
         let key = match Key::read(key) {
             Ok(key) => key,
@@ -69,7 +69,7 @@ impl Tables {
             }
             None => {
                 if self.logs.len() >= LOGS {
-                    return Err(Fault::new(Decline::Full));
+                    return Err(Fault::from(Decline::Full));
                 }
                 self.enter_new(key, stamp, position);
                 Ok(())

@@ -1,5 +1,5 @@
-use Rattle.std.proofs.Common.{◌≡◌, ◌-◌, ◌≤◌, min, length, take, sym, ◌∙◌, arith}
-use Rattle.octets.proofs.Packing.{filled_laid, unpacked_part, length_unpacked}
+use Rattle.std.proofs.Common.{◌≡◌, ℕ, ◌-◌, ◌≤◌, min, List, ◌++◌, length, take, drop, replicate, sym, ap, ◌∙◌, arith}
+use Rattle.octets.proofs.Packing.{filled_over, unpacked_part, length_unpacked}
 use Rattle.octets.proofs.Widths.{four_bytes}
 use Rattle.keys.specs.Values.{prefix_of}
 use Rattle.keys.proofs.KeyBytes.{assembled}
@@ -11,7 +11,10 @@ returns c =
     let u : take (c.min-n.result - 0) c.bytes-prefix.result ≡ r = unpacked_part c.args.self.rule.prefix _ _ c.bytes-prefix.ensures c.min-n.ensures in
     let n : length r ≡ min c.args.self.rule.prefix.length 16 = length_unpacked c.args.self.rule.prefix in
     let l : length r ≤ 16 = omega arith in
+    let k : c.min-n.result - 0 ≡ length r = omega arith in
     assembled _ _ _ r _ c.args.self.source c.args.self.target
-    (c.copy_from_slice.ensures.after ∙ (c.to_be_bytes.ensures ∙ sym (four_bytes c.args.self.source)))
-    (c.copy_from_slice-2.ensures.after ∙ (c.to_be_bytes-2.ensures ∙ sym (four_bytes c.args.self.target)))
-    (c.copy_from_slice-3.ensures.after ∙ filled_laid 16 c.lay.result _ r _ _ u l c.lay.ensures) (c.min-n.ensures ∙ sym n)
+    (c.copy_from_slice-2.ensures.after ∙ (c.to_be_bytes.ensures ∙ sym (four_bytes c.args.self.source)))
+    (c.copy_from_slice-3.ensures.after ∙ (c.to_be_bytes-2.ensures ∙ sym (four_bytes c.args.self.target)))
+    (c.copy_from_slice-4.ensures.after ∙ (ap (λ (l : List ℕ). l ++ drop (c.min-n.result - 0) (replicate 16 0)) (c.copy_from_slice.ensures.after ∙ u) ∙
+    (ap (λ (m : ℕ). r ++ drop m (replicate 16 0)) k ∙ filled_over 16 r l)))
+    (c.min-n.ensures ∙ sym n)

@@ -8,7 +8,7 @@ use Rattle.memory.proofs.MemoryPeer.wake.Goals as goal
 pub returns-then-stamp-eq0 : goal.returns-then-stamp-eq0
 returns-then-stamp-eq0 c = record {
   keeps = c.requires;
-  calls = subst (λ (e : Fault). Wakes c.args.stamp (state_of c.args.self.now) (Err e) (state_of c.args.self.now)) (sym c.new.ensures) (bad_stamp c.if-stamp-eq0.true, inl refl);
+  calls = subst (λ (e : Fault). Wakes c.args.stamp (state_of c.args.self.now) (Err e) (state_of c.args.self.now)) (sym c.from.ensures) (bad_stamp c.if-stamp-eq0.true, inl refl);
 }
 
 pub returns : goal.returns

@@ -9,7 +9,7 @@ pub returns-then-len-ge-LOGS : goal.returns-then-len-ge-LOGS
 returns-then-len-ge-LOGS c =
     let t = c.args.self.now in
     let h : 8 ≤ length (vec_items t.logs) = search rules in
-    record { sound = c.requires; writes = written_full t c.args.key.now c.args.stamp c.args.position c.in-Ok.key _ c.as_slice.ensures.value c.in-Ok.ensures c.if-stamp-eq0.false c.in-None.ensures.value _ h c.new-then-len-ge-LOGS.ensures }
+    record { sound = c.requires; writes = written_full t c.args.key.now c.args.stamp c.args.position c.in-Ok.key _ c.as_slice.ensures.value c.in-Ok.ensures c.if-stamp-eq0.false c.in-None.ensures.value _ h c.from-then-len-ge-LOGS.ensures }
 
 pub returns-then-not-holds : goal.returns-then-not-holds
 returns-then-not-holds c =
