@@ -25,7 +25,7 @@ ghost use Rattle.tables.specs.Calls.{PathLength, PathReplied, Writes};
 use decline::{Decline, Fault};
 use entries::{Content, Document, HeldRevision, KeyedLog, RevisionOf, place_in};
 use octets::{lay, number_of};
-use revision::{DocumentId, Mark};
+use revision::{DocumentId, Mark, Revision};
 use std::alloc::{AllocError, Global};
 
 // How many documents, revisions, heads and logs there is room for.
@@ -171,8 +171,10 @@ impl Tables {
         let revisions = self.revisions.as_slice();
         let revision = RevisionOf {
             document,
-            generation: g as u8,
-            tag: tag_at(tags, g),
+            revision: Revision {
+                generation: g as u8,
+                tag: tag_at(tags, g),
+            },
         };
         match place_in(revisions, &revision) {
             None => Known {
