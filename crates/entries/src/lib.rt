@@ -2,12 +2,13 @@
 // by key.
 #![tactic(auto)]
 
-ghost use Rattle.std.specs.Prelude.{◌≡◌, ◌<◌, Bool, length, IfSome};
+ghost use Rattle.std.specs.Prelude.{◌≡◌, ◌<◌, ◌≤◌, Bool, length, IfSome, Decides};
 ghost use Rattle.octets.specs.Packed.{unpacked};
 ghost use Rattle.order.specs.Lists.{same};
+ghost use Rattle.revision.specs.Values.{mark_number};
 ghost use Rattle.keys.specs.Values.{key_of};
 ghost use Rattle.entries.specs.Searches.{place};
-ghost use Rattle.entries.specs.Entries.{is_revision, is_document, is_log};
+ghost use Rattle.entries.specs.Entries.{content_of, content, is_revision, is_document, is_log};
 
 use checkpoint::Log;
 use keys::Key;
@@ -46,11 +47,45 @@ impl HeldRevision {
 }
 
 // What a head keeps: its mark, and as many bytes of the body as the length says.
+// Kept: in fixed memory a content takes 98 bytes; the kit's `arrayvec` would add 7 to each.
 #[derive(Clone, Copy)]
 pub struct Content {
     pub mark: Mark,
     pub length: u8,
     pub body: [u8; 96],
+}
+
+impl Content {
+    // A content of a mark and a body.
+    pub fn new(mark: Mark, body: &[u8]) -> Content
+        requires { length body.now ≤ 96 }
+        ensures is { content_of result ≡ content (mark_number mark) body.now }
+        ensures short { result.length ≤ 96 }
+    {
+        let length = body.len();
+        let mut all = [0; 96];
+        all[..length].copy_from_slice(body);
+        Content {
+            mark,
+            length: length as u8,
+            body: all,
+        }
+    }
+
+    // The body that is kept.
+    pub fn bytes(&self) -> &[u8]
+        ensures body { result.now ≡ (content_of self.now).body }
+        ensures short { length result.now ≤ 96 }
+    {
+        &self.body[..(self.length as usize).min(96)]
+    }
+
+    // Whether this mark and body are kept.
+    pub fn keeps(&self, mark: Mark, body: &[u8]) -> bool
+        ensures { Decides result (content_of self.now ≡ content (mark_number mark) body.now) }
+    {
+        self.mark == mark && self.bytes() == body
+    }
 }
 
 // The log of a key.
@@ -78,14 +113,13 @@ pub trait Finds<E> {
 }
 
 // Whether two packed byte strings are the same.
+// Kept: the numbers of equal strings may differ behind their bytes, so a derived `==` of them would answer no.
 fn same_bytes(a: Packed, b: Packed) -> bool
     ensures { result ≡ same (unpacked a) (unpacked b) }
 {
     let ours = a.bytes();
     let theirs = b.bytes();
-    let n = (a.length as usize).min(16);
-    let m = (b.length as usize).min(16);
-    &ours[0..n] == &theirs[0..m]
+    ours[..(a.length as usize).min(16)] == theirs[..(b.length as usize).min(16)]
 }
 
 // A document is found by its id.
