@@ -1,4 +1,5 @@
 pub mod Inputs
+pub mod TagBytes
 pub mod Standings
 pub mod NewRows
 pub mod Slots

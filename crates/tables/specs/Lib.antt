@@ -1,3 +1,5 @@
+pub mod Tags
+pub mod PathReads
 pub mod Tables
 pub mod Sound
 pub mod Room

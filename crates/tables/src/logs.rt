@@ -17,12 +17,11 @@ use entries::{KeyedLog, place_in};
 use keys::Key;
 
 // A log after a log write.
-fn entered(log: Log, stamp: u64, position: u32) -> Log
+fn entered(mut log: Log, stamp: u64, position: u32) -> Log
     requires { stamp ≢ 0 }
     ensures { pairs (entries_of result) ≡ entered nat_eq stamp position (pairs (entries_of log)) }
 {
-    let mut log = log;
-    let _ = log.put(stamp, position);
+    log.put(stamp, position).unwrap();
     log
 }
 
@@ -54,12 +53,9 @@ impl Tables {
         ensures writes { Writes (Function.log_write key.now stamp position) plain (entry (note_given key.now stamp position)) self.old result self.new }
     {
         if stamp == 0 {
-            return Err(Fault::from(Decline::Stamp));
+            return Err(Decline::Stamp.into());
         }
-        let key = match Key::read(key) {
-            Ok(key) => key,
-            Err(e) => return Err(e),
-        };
+        let key = Key::read(key)?;
         match place_in(self.logs.as_slice(), &key) {
             Some(at) => {
                 if !self.logs[at].log.holds(stamp, position) {
@@ -69,7 +65,7 @@ impl Tables {
             }
             None => {
                 if self.logs.len() >= LOGS {
-                    return Err(Fault::from(Decline::Full));
+                    return Err(Decline::Full.into());
                 }
                 self.enter_new(key, stamp, position);
                 Ok(())
