@@ -5,4 +5,3 @@ pub mod Sound
 pub mod Room
 pub mod Calls
 pub mod Paths
-pub mod LogWrites

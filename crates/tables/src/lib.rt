@@ -2,18 +2,15 @@
 // taken once, when they are made.
 #![tactic(auto)]
 
-ghost use Rattle.std.specs.Prelude.{◌≡◌, ◌+◌, ◌-◌, ◌*◌, ◌<◌, ◌≤◌, ◌++◌, length, IfSome, IfOk, if◌then◌else◌, Some, None, Ok, vec_len, vec_capacity, Decides, MatchOption, nat_eq, slice_index_or};
+ghost use Rattle.std.specs.Prelude.{◌≡◌, ◌+◌, ◌-◌, ◌*◌, ◌<◌, ◌≤◌, ◌++◌, length, IfSome, IfOk, Some, None, Ok, vec_len, vec_capacity, Decides, MatchOption, slice_index_or};
 ghost use Rattle.octets.specs.Packed.{unpacked};
-ghost use Rattle.revision.specs.Values.{mark_number};
 ghost use Rattle.peer.specs.Records.{blank};
-ghost use Rattle.octets.specs.BigEndian.{eights};
-ghost use Rattle.revision.specs.Ids.{IsId};
 ghost use Rattle.peer.specs.Peers.{path};
 ghost use Rattle.peer.specs.Functions.{Function, path_given};
 ghost use Rattle.peer.specs.Replies.{plain};
 ghost use Rattle.entries.specs.Searches.{place};
 ghost use Rattle.tables.specs.Tables.{record_of};
-ghost use Rattle.entries.specs.Entries.{is_document, content_of, content, slot_at};
+ghost use Rattle.entries.specs.Entries.{is_document, slot_at};
 ghost use Rattle.tables.specs.Tags.{tag_at};
 ghost use Rattle.tables.specs.PathReads.{path_of};
 ghost use Rattle.tables.specs.Sound.{Sound, Reserved};
@@ -40,6 +37,7 @@ const HEADS: usize = 64;
 const LOGS: usize = 8;
 
 // The tables. Whoever changes them must keep them sound: every call asks for that.
+// Kept: by a rule of the project the tables stand in a record without an invariant in its type; its calls keep `Sound`.
 #[derive(Drop)]
 pub struct Tables {
     pub documents: Vec<Document>,
@@ -51,6 +49,7 @@ pub struct Tables {
 
 // The newest generation of a path that is held, the place of its entry, and its slot if it is a head; generation 0,
 // with neither, where none is held.
+// Kept: what is missing is counted from this generation; an `Option` of all three would be unpacked at every use.
 #[derive(Clone, Copy)]
 struct NewestHeld {
     generation: u8,
@@ -191,28 +190,13 @@ impl Tables {
     }
 
     // An entry of the revisions, lent to be changed.
+    // Kept: by a rule of the project an entry is changed where it stands, lent through the record that has its table.
     fn revision_mut(&mut self, i: usize) -> &mut HeldRevision
         requires { i < vec_len self.old.revisions }
         ensures* follows { sem 𝓛 (follows the_row revision-row self.entry.ghost_name result.ghost_name (λ w. record { documents = self.old.documents; revisions = with_item self.old.revisions i w; contents = self.old.contents; logs = self.old.logs; highest = self.old.highest })) }
         ensures value { result.now ≡ slice_index_or self.old.revisions.items i result.now }
     {
         &mut self.revisions[i]
-    }
-
-    // Takes the slot from an entry, if one is named.
-    fn strip(&mut self, at: Option<usize>)
-        requires { IfSome at (λ i. i < vec_len self.old.revisions) }
-        ensures revisions { self.new.revisions.items ≡ stripped self.old.revisions.items at }
-        ensures many { vec_len self.new.revisions ≡ vec_len self.old.revisions }
-        ensures capacity { vec_capacity self.new.revisions ≡ vec_capacity self.old.revisions }
-        ensures documents { self.new.documents ≡ self.old.documents }
-        ensures contents { self.new.contents ≡ self.old.contents }
-        ensures logs { self.new.logs ≡ self.old.logs }
-        ensures highest { self.new.highest ≡ self.old.highest }
-    {
-        if let Some(i) = at {
-            self.revision_mut(i).slot = None;
-        }
     }
 
     // The slot of the entry at a place, if it is a head's; none where there is no such place.
@@ -263,7 +247,9 @@ impl Tables {
         requires room { Fits self.old document (path.now.generation - newest.generation) newest.slot }
         ensures { Grown self.old document path.now newest self.new }
     {
-        self.strip(newest.place);
+        if let Some(i) = newest.place {
+            self.revision_mut(i).slot = None;
+        }
         let content = Content::new(path.mark, path.body);
         let slot = place_content(&mut self.contents, newest.slot, content);
         let k = newest.generation;
