@@ -8,8 +8,9 @@ use Rattle.tables.specs.Paths.{Missing, Agrees, Against}
 use Rattle.entries.specs.Searches.{place}
 use Rattle.entries.specs.Entries.{no_revision, is_revision, tree_at, node_of, slotted, slot_at}
 use Rattle.tables.specs.declared.Tables.{Tables}
+use Rattle.tables.specs.declared.path.Path.{Path}
 use Rattle.tables.specs.Sound.{Sound}
-use Rattle.tables.specs.Paths.{stands, standing, NewestAt}
+use Rattle.tables.specs.Paths.{tag_in, stands, standing, NewestAt}
 use Rattle.entries.proofs.Searching.{found, not_found, false_if}
 use Rattle.entries.proofs.Lookups.{place_none}
 
@@ -44,8 +45,8 @@ module _ (rs es : List HeldRevision) (cs : List Content) (d g x : ℕ) (tag : �
   )
 
 -- no generation of a path is looked at yet: no entry has generation 0
-pub none_yet : (t : Tables) (d : ℕ) (tag : ℕ → ℕ) → Sound t → NewestAt t d tag 0 record { generation = 0; place = None; slot = None }
-none_yet t d tag s = record {
+pub none_yet : (t : Tables) (d : ℕ) (p : Path) → Sound t → NewestAt t d p 0 record { generation = 0; place = None; slot = None }
+none_yet t d p s = record {
   newest = record { within = omega arith; agrees = λ g l h. absurd (omega arith); last = λ l. absurd (omega arith); beyond = λ g l h. absurd (omega arith) };
   entry = nowhere;
   slot = ap (slot_at (vec_items t.revisions)) nowhere;
@@ -53,13 +54,13 @@ none_yet t d tag s = record {
   there = tt;
 }
   where
-    not_first : (j : ℕ) → j < length (vec_items t.revisions) → is_revision d 0 (tag 0) (get_or (vec_items t.revisions) j no_revision) ≡ true → ⊥
+    not_first : (j : ℕ) → j < length (vec_items t.revisions) → is_revision d 0 (tag_in p 0) (get_or (vec_items t.revisions) j no_revision) ≡ true → ⊥
     not_first j l e =
         let r : HeldRevision = get_or (vec_items t.revisions) j no_revision in
-        let a = and_parts (eqb r.document d) (eqb r.generation 0 && eqb r.tag (tag 0)) e in
-        let b = and_parts (eqb r.generation 0) (eqb r.tag (tag 0)) a.1 in
+        let a = and_parts (eqb r.document d) (eqb r.generation 0 && eqb r.tag (tag_in p 0)) e in
+        let b = and_parts (eqb r.generation 0) (eqb r.tag (tag_in p 0)) a.1 in
         let z : r.generation ≡ 0 = eqb-true r.generation 0 b.0 in
         false≢true (sym (ap good_generation z) ∙ s.revisions.generations j no_revision l)
 
-    nowhere : None ≡ place (is_revision d 0 (tag 0)) 0 (vec_items t.revisions)
-    nowhere = sym (place_none (is_revision d 0 (tag 0)) no_revision (vec_items t.revisions) (λ j l. false_if (is_revision d 0 (tag 0) (get_or (vec_items t.revisions) j no_revision)) (not_first j l)))
+    nowhere : None ≡ place (is_revision d 0 (tag_in p 0)) 0 (vec_items t.revisions)
+    nowhere = sym (place_none (is_revision d 0 (tag_in p 0)) no_revision (vec_items t.revisions) (λ j l. false_if (is_revision d 0 (tag_in p 0) (get_or (vec_items t.revisions) j no_revision)) (not_first j l)))

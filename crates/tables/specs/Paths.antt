@@ -118,36 +118,41 @@ slot_of t d tag k = slot_at (vec_items t.revisions) (entry_of t d tag k)
 abbrev pub Inside : Tables → Option ℕ → Type 0
 Inside t o = MatchOption o Unit (λ i. i < length (vec_items t.revisions))
 
--- looking for generation g of a path: no place where it is missing, its entry's where it is held; declined 34 where it is held under another parent
-abbrev pub LookedUp : Tables → ℕ → (ℕ → ℕ) → ℕ → Result (Option ℕ) Fault → Type 0
-LookedUp t d tag g (Ok None) = standing (tree_in t d) tag g ≡ Missing
-LookedUp t d tag g (Ok (Some i)) = (standing (tree_in t d) tag g ≡ Agrees) × (entry_of t d tag g ≡ Some i) × (i < length (vec_items t.revisions))
-LookedUp t d tag g (Err e) = (standing (tree_in t d) tag g ≡ Against) × (e ≡ bare 34)
+-- the tag of a path's generation
+abbrev pub tag_in : Path → ℕ → ℕ
+tag_in p = tag_at p.tags.now
 
--- the newest generation of a path that is held, or 0, with the place of its entry and its slot
-pub record NewestAt (t : Tables) (d : ℕ) (tag : ℕ → ℕ) (n : ℕ) (h : NewestHeld) : Type 0 where
-  pub newest : Newest (standing (tree_in t d) tag) n h.generation
-  pub entry : h.place ≡ entry_of t d tag h.generation
-  pub slot : h.slot ≡ slot_of t d tag h.generation
+-- looking for generation g of a path: no place where it is missing, its entry's where it is held; declined 34 where it is held under another parent
+abbrev pub LookedUp : Tables → ℕ → Path → ℕ → Result (Option ℕ) Fault → Type 0
+LookedUp t d p g (Ok None) = standing (tree_in t d) (tag_in p) g ≡ Missing
+LookedUp t d p g (Ok (Some i)) = (standing (tree_in t d) (tag_in p) g ≡ Agrees) × (entry_of t d (tag_in p) g ≡ Some i) × (i < length (vec_items t.revisions))
+LookedUp t d p g (Err e) = (standing (tree_in t d) (tag_in p) g ≡ Against) × (e ≡ bare 34)
+
+-- of the first n generations of a path the newest that is held, or 0, with the place of its entry and its slot
+pub record NewestAt (t : Tables) (d : ℕ) (p : Path) (n : ℕ) (h : NewestHeld) : Type 0 where
+  pub newest : Newest (standing (tree_in t d) (tag_in p)) n h.generation
+  pub entry : h.place ≡ entry_of t d (tag_in p) h.generation
+  pub slot : h.slot ≡ slot_of t d (tag_in p) h.generation
   pub within : Inside t h.place
   pub there : MatchOption h.slot Unit (λ s. s < length (vec_items t.contents))
 
 -- reading the newest generation of a path that is held; declined 34 where one is held under another parent
-abbrev pub NewestRead : Tables → ℕ → (ℕ → ℕ) → ℕ → Result NewestHeld Fault → Type 0
-NewestRead t d tag n (Ok h) = NewestAt t d tag n h
-NewestRead t d tag n (Err e) = Clash (standing (tree_in t d) tag) n × (e ≡ bare 34)
+abbrev pub NewestRead : Tables → ℕ → Path → Result NewestHeld Fault → Type 0
+NewestRead t d p (Ok h) = NewestAt t d p p.generation h
+NewestRead t d p (Err e) = Clash (standing (tree_in t d) (tag_in p)) p.generation × (e ≡ bare 34)
 
 -- the tables with a path after its newest held generation
 abbrev pub Grown : Tables → ℕ → Path → NewestHeld → Tables → Type 0
-Grown t d p h u = (x : Content) × (content_of x ≡ (path_of p).content) × (x.length ≤ 96) × Extended t p.id d (tag_at p.tags.now) p.generation h.generation h.place h.slot x u
+Grown t d p h u = (x : Content) × (content_of x ≡ (path_of p).content) × (x.length ≤ 96) × Extended t p.id d (tag_in p) p.generation h.generation h.place h.slot x u
 
--- What a path write of good input does to the tables. It is declined 34 if a generation is held under another parent, or the last one is a head with other
--- content; it changes nothing if the last one is held; else it is declined 35 for want of room, or written.
-abbrev pub Wrote : Tables → DocumentId → ℕ → (ℕ → ℕ) → ℕ → Trees.Content → Result ℕ Fault → Tables → Type 0
-Wrote t id d tag n c (Ok a) u =
-    ((a ≡ 0) × Newest (standing (tree_in t d) tag) n n × Keeps (vec_items t.contents) (slot_of t d tag n) c × (u ≡ t)) ⊎
-    ((a ≡ 1) × ((k : ℕ) × (k < n) × Newest (standing (tree_in t d) tag) n k × Fits t d (n - k) (slot_of t d tag k) ×
-    ((x : Content) × (content_of x ≡ c) × (x.length ≤ 96) × Extended t id d tag n k (entry_of t d tag k) (slot_of t d tag k) x u)))
-Wrote t id d tag n c (Err e) u = (u ≡ t) × (
-    ((e ≡ bare 34) × (Clash (standing (tree_in t d) tag) n ⊎ (Newest (standing (tree_in t d) tag) n n × (Keeps (vec_items t.contents) (slot_of t d tag n) c → ⊥)))) ⊎
-    ((e ≡ bare 35) × ((k : ℕ) × (k < n) × Newest (standing (tree_in t d) tag) n k × (Fits t d (n - k) (slot_of t d tag k) → ⊥))))
+-- What a path write does to the tables. It is declined 34 if a generation is held under another parent, or the last one is a head with other content; it
+-- changes nothing if the last one is held; else it is declined 35 for want of room, or written.
+abbrev pub Wrote : Tables → ℕ → Path → Result ℕ Fault → Tables → Type 0
+Wrote t d p (Ok a) u =
+    ((a ≡ 0) × Newest (standing (tree_in t d) (tag_in p)) p.generation p.generation × Keeps (vec_items t.contents) (slot_of t d (tag_in p) p.generation) (path_of p).content × (u ≡ t)) ⊎
+    ((a ≡ 1) × ((k : ℕ) × (k < p.generation) × Newest (standing (tree_in t d) (tag_in p)) p.generation k × Fits t d (p.generation - k) (slot_of t d (tag_in p) k) ×
+    ((x : Content) × (content_of x ≡ (path_of p).content) × (x.length ≤ 96) × Extended t p.id d (tag_in p) p.generation k (entry_of t d (tag_in p) k) (slot_of t d (tag_in p) k) x u)))
+Wrote t d p (Err e) u = (u ≡ t) × (
+    ((e ≡ bare 34) × (Clash (standing (tree_in t d) (tag_in p)) p.generation ⊎
+    (Newest (standing (tree_in t d) (tag_in p)) p.generation p.generation × (Keeps (vec_items t.contents) (slot_of t d (tag_in p) p.generation) (path_of p).content → ⊥)))) ⊎
+    ((e ≡ bare 35) × ((k : ℕ) × (k < p.generation) × Newest (standing (tree_in t d) (tag_in p)) p.generation k × (Fits t d (p.generation - k) (slot_of t d (tag_in p) k) → ⊥))))

@@ -147,7 +147,7 @@ impl Tables {
     fn look_up(&self, document: u8, path: &Path, generation: u8) -> Result<Option<usize>, Fault>
         requires low { 0 < generation }
         requires high { generation ≤ path.now.generation }
-        ensures { LookedUp self.now document (tag_at path.now.tags.now) generation result }
+        ensures { LookedUp self.now document path.now generation result }
     {
         let revisions = self.revisions.as_slice();
         let revision = RevisionOf {
@@ -170,7 +170,7 @@ impl Tables {
     // through once for each generation.
     fn newest_held(&self, document: u8, path: &Path) -> Result<NewestHeld, Fault>
         requires { Sound self.now }
-        ensures { NewestRead self.now document (tag_at path.now.tags.now) path.now.generation result }
+        ensures { NewestRead self.now document path.now result }
     {
         let mut newest = NewestHeld {
             generation: 0,
@@ -266,7 +266,7 @@ impl Tables {
     fn write_at(&mut self, document: usize, path: &Path) -> Result<u32, Fault>
         requires sound { Sound self.old }
         requires known { document ≤ length self.old.documents.items }
-        ensures { Wrote self.old path.now.id document (tag_at path.now.tags.now) path.now.generation (path_of path.now).content result self.new }
+        ensures { Wrote self.old document path.now result self.new }
     {
         let newest = self.newest_held(document as u8, path)?;
         if newest.generation == path.generation {
