@@ -10,12 +10,21 @@ mod tests {
     use decline::{Decline, Fault};
     use memory::{Memory, Unmade};
     use peer::{Peer, WritablePeer};
+    use revision::{Mark, Revision};
     use std::alloc::Global;
     use std::process::Abort;
     use std::test::Fail;
 
     // The tag that is the byte '1' eight times.
     const ONES: u64 = 0x3131_3131_3131_3131;
+
+    // The revision of a generation with that tag.
+    fn ones(generation: u8) -> Revision {
+        Revision {
+            generation,
+            tag: ONES,
+        }
+    }
 
     // An empty peer.
     fn empty(heap: Global) -> Result<Memory, Fail>
@@ -178,7 +187,7 @@ mod tests {
             peer.path_write(b"1234567890123456", 1, b"11111111", 0, b""),
             Ok(1)
         );
-        assert_eq!(rt; peer.is_held(b"1234567890123456", 1, ONES), Ok(true));
+        assert_eq!(rt; peer.is_held(b"1234567890123456", ones(1)), Ok(true));
         Ok(())
     }
 
@@ -259,7 +268,7 @@ mod tests {
         assert_eq!(rt; peer.start_stamp(), Ok(7));
         assert_eq!(rt; peer.wake(0), Err(Fault::from(Decline::Stamp)));
         assert_eq!(rt; peer.start_stamp(), Ok(7));
-        assert_eq!(rt; peer.is_held(b"A", 2, ONES), Ok(true));
+        assert_eq!(rt; peer.is_held(b"A", ones(2)), Ok(true));
         let entry = Entry {
             stamp: 5,
             position: 0,
@@ -274,15 +283,15 @@ mod tests {
         assert_eq!(rt; write(&mut peer, b'A', 200, b'1'), Ok(1));
         let mut short = [9u8; 1599];
         assert_eq!(rt;
-            peer.tags_of(b"A", 3, ONES, &mut short),
+            peer.tags_of(b"A", ones(3), &mut short),
             Err(Fault::from(Decline::Memory))
         );
         assert!(rt; short == [9; 1599]);
         let mut out = [9u8; 1600];
-        assert_eq!(rt; peer.tags_of(b"A", 3, ONES, &mut out), Ok(24));
+        assert_eq!(rt; peer.tags_of(b"A", ones(3), &mut out), Ok(24));
         assert!(rt; out.starts_with(&[b'1'; 24]));
         assert!(rt; out.ends_with(&[9; 1576]));
-        assert_eq!(rt; peer.tags_of(b"A", 200, ONES, &mut out), Ok(1600));
+        assert_eq!(rt; peer.tags_of(b"A", ones(200), &mut out), Ok(1600));
         assert!(rt; out == [b'1'; 1600]);
         Ok(())
     }
@@ -294,17 +303,17 @@ mod tests {
         assert_eq!(rt; peer.path_write(b"B", 1, b"11111111", 1, &[2; 96]), Ok(1));
         let mut short = [9u8; 95];
         assert_eq!(rt;
-            peer.body_of(b"A", 1, ONES, &mut short).err(),
+            peer.body_of(b"A", ones(1), &mut short).err(),
             Some(Fault::from(Decline::Memory))
         );
         assert!(rt; short == [9; 95]);
         let mut out = [9u8; 96];
-        let milk = peer.body_of(b"A", 1, ONES, &mut out)?;
-        assert_eq!(rt; (milk.mark, milk.length), (0, 4));
+        let milk = peer.body_of(b"A", ones(1), &mut out)?;
+        assert_eq!(rt; (milk.mark, milk.length), (Mark::Live, 4));
         assert!(rt; out.starts_with(b"milk"));
         assert!(rt; out.ends_with(&[9; 92]));
-        let whole = peer.body_of(b"B", 1, ONES, &mut out)?;
-        assert_eq!(rt; (whole.mark, whole.length), (1, 96));
+        let whole = peer.body_of(b"B", ones(1), &mut out)?;
+        assert_eq!(rt; (whole.mark, whole.length), (Mark::Deleted, 96));
         assert!(rt; out == [2; 96]);
         Ok(())
     }

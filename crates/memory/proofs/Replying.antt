@@ -13,7 +13,7 @@ use Rattle.peer.specs.Replies.{FaultOf, Replies, plain}
 use Rattle.peer.proofs.Calls.{moved_refl}
 use Rattle.tables.specs.declared.Tables.{Tables}
 use Rattle.tables.specs.Tables.{record_of}
-use Rattle.tables.specs.Reads.{peer_on, applied, Writes}
+use Rattle.tables.specs.Calls.{peer_on, applied, Writes}
 use Rattle.memory.specs.State.{standing}
 
 -- a call that is declined, with its whole fault

@@ -64,43 +64,31 @@ impl Peer for Memory {
     }
 
     fn row_after(&mut self, n: u32) -> Result<Option<Row>, Fault> {
-        Ok(self.tables.row_after(n))
+        Ok(reads::row_after(&self.tables, n))
     }
 
     fn head_count(&mut self, id: &[u8]) -> Result<u32, Fault> {
-        self.tables.head_count(id)
+        reads::head_count(&self.tables, id)
     }
 
     fn head_at(&mut self, id: &[u8], i: u32) -> Result<Option<Revision>, Fault> {
-        self.tables.head_at(id, i)
+        reads::head_at(&self.tables, id, i)
     }
 
-    fn is_held(&mut self, id: &[u8], generation: u8, tag: u64) -> Result<bool, Fault> {
-        self.tables.is_held(id, generation, tag)
+    fn is_held(&mut self, id: &[u8], revision: Revision) -> Result<bool, Fault> {
+        reads::is_held(&self.tables, id, revision)
     }
 
-    fn tags_of(
-        &mut self,
-        id: &[u8],
-        generation: u8,
-        tag: u64,
-        out: &mut [u8],
-    ) -> Result<usize, Fault> {
-        self.tables.tags_of(id, generation, tag, out)
+    fn tags_of(&mut self, id: &[u8], revision: Revision, out: &mut [u8]) -> Result<usize, Fault> {
+        reads::tags_of(&self.tables, id, revision, out)
     }
 
-    fn body_of(
-        &mut self,
-        id: &[u8],
-        generation: u8,
-        tag: u64,
-        out: &mut [u8],
-    ) -> Result<Body, Fault> {
-        self.tables.body_of(id, generation, tag, out)
+    fn body_of(&mut self, id: &[u8], revision: Revision, out: &mut [u8]) -> Result<Body, Fault> {
+        reads::body_of(&self.tables, id, revision, out)
     }
 
     fn log_entry(&mut self, key: &[u8], i: u32) -> Result<Option<Entry>, Fault> {
-        self.tables.log_entry(key, i)
+        reads::log_entry(&self.tables, key, i)
     }
 
     fn log_write(&mut self, key: &[u8], stamp: u64, position: u32) -> Result<(), Fault> {

@@ -11,15 +11,15 @@ use Rattle.revision.specs.Ids.{Id, IsId}
 use Rattle.revision.specs.Trees.{Tree}
 use Rattle.revision.specs.Paths.{Path, written}
 use Rattle.peer.specs.Records.{put}
-use Rattle.tables.specs.declared.Document.{Document}
-use Rattle.tables.specs.declared.HeldRevision.{HeldRevision}
-use Rattle.tables.specs.declared.Content.{Content}
-use Rattle.tables.specs.Searches.{first, place, Once, Every}
-use Rattle.tables.specs.Tables.{is_document, is_revision, tree_at, tree_from, node_of, last_of, documents_in}
+use Rattle.entries.specs.declared.Document.{Document}
+use Rattle.entries.specs.declared.HeldRevision.{HeldRevision}
+use Rattle.entries.specs.declared.Content.{Content}
+use Rattle.entries.specs.Searches.{first, place, Once, Every}
+use Rattle.entries.specs.Entries.{is_document, is_revision, tree_at, tree_from, node_of, last_of, documents_in, no_revision}
 use Rattle.tables.specs.Sound.{SoundDocuments, SoundRevisions}
-use Rattle.tables.specs.Paths.{place_for, renewed, no_revision}
-use Rattle.tables.proofs.Searching.{found, not_both, false_if}
-use Rattle.tables.proofs.Lookups.{first_once, place_once, first_none}
+use Rattle.tables.specs.Paths.{place_for, renewed}
+use Rattle.entries.proofs.Searching.{found, not_both, false_if}
+use Rattle.entries.proofs.Lookups.{first_once, place_once, first_none}
 use Rattle.tables.proofs.Entries.{set_other, three_same}
 
 module _ {X : Type 0} (p : X → Bool) where

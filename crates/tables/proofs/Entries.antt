@@ -2,12 +2,12 @@
 use Rattle.std.proofs.Common.{◌≡◌, ℕ, zero, suc, ◌+◌, ◌<◌, ◌≤◌, Bool, true, false, cond, ◌&&◌, eqb, List, [], ◌∷◌, ◌++◌, length, get_or, set, is_some, Some, None, Option, sym, refl, ap, ◌∙◌, ⊎_elim, arith}
 use Rattle.std.specs.Option.{option_or}
 use Rattle.std.proofs.lemmas.Bool.{and_parts, and_from, eqb-true, eq-eqb, ne_eqb, cases_eq}
-use Rattle.tables.specs.declared.HeldRevision.{HeldRevision}
-use Rattle.tables.specs.Searches.{first, count}
-use Rattle.tables.specs.Tables.{is_revision}
+use Rattle.entries.specs.declared.HeldRevision.{HeldRevision}
+use Rattle.entries.specs.Searches.{first, count}
+use Rattle.entries.specs.Entries.{is_revision}
 use Rattle.tables.specs.Sound.{has_slot}
 use Rattle.tables.specs.Paths.{row, rows}
-use Rattle.tables.proofs.Searching.{false_if}
+use Rattle.entries.proofs.Searching.{false_if}
 
 abbrev three : ℕ → ℕ → ℕ → ℕ → ℕ → ℕ → Bool
 three a d b g c x = eqb a d && (eqb b g && eqb c x)

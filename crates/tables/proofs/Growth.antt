@@ -4,10 +4,11 @@ use mathlib.Core.Path.{fun_ext}
 use Rattle.std.proofs.lemmas.Bool.{eq-eqb, ne_eqb, cases_eq, cases_lt}
 use Rattle.revision.specs.Trees.{Content, Node, absent, inner, head, Tree, held, parent, level, Closed}
 use Rattle.revision.specs.Paths.{Path, last_node, up, touched, written, changes}
-use Rattle.tables.specs.declared.Standing.TheVariants.{Against}
+use Rattle.tables.specs.Paths.{Against}
 use Rattle.tables.specs.Paths.{stands, standing, Newest}
 use Rattle.tables.proofs.PathPlaces.{before, next_at, along_at, along_past, behind_more}
-use Rattle.tables.proofs.PathRule.{retired, Suits, Tags, parent_or, missing_absent, agrees_held, held_level, touched_kept, touched_retired, before_tag, node_between, node_last, last_node_is}
+use Rattle.revision.proofs.Writes.{level_held}
+use Rattle.tables.proofs.PathRule.{retired, Suits, Tags, parent_or, missing_absent, agrees_held, touched_kept, touched_retired, before_tag, node_between, node_last, last_node_is}
 
 -- the missing generations are added, the newest held one is a head no more, and all else stays
 pub record Grown (t u : Tree) (tag : ℕ → ℕ) (n k : ℕ) (c : Content) : Type 0 where
@@ -27,7 +28,7 @@ level_retired (inner p) e = refl
 level_retired (head p c) e = refl
 
 inner_retired : (a : Node) → level a ≡ 2 → level (retired a) ≡ 2
-inner_retired a e = level_retired a (held_level a e)
+inner_retired a e = level_retired a (level_held a e)
 
 module _ (w : Path) (tag : ℕ → ℕ) (n : ℕ) (ts : Tags w tag n) (t : Tree) (k : ℕ) (cl : Closed t) (nw : Newest (standing t tag) n k) where
   pub gone : (g : ℕ) → k < g → g ≤ n → t g (tag g) ≡ absent
@@ -45,7 +46,7 @@ module _ (w : Path) (tag : ℕ → ℕ) (n : ℕ) (ts : Tags w tag n) (t : Tree)
 
       go : (t (suc (suc i)) (tag (suc (suc i))) ≡ absent) ⊎ (parent (t (suc (suc i)) (tag (suc (suc i)))) ≡ Some (tag (suc i))) → held (t (suc (suc i)) (tag (suc (suc i)))) ≡ true → held (t (suc i) (tag (suc i))) ≡ true
       go (inl a) h = absurd (let z : false ≡ true = sym (ap held a) ∙ h in let y : ◌≡◌ {A = ℕ} 0 1 = cc in omega arith)
-      go (inr p) h = held_level (t (suc i) (tag (suc i))) (cl.parents i (tag (suc (suc i))) (tag (suc i)) p)
+      go (inr p) h = level_held (t (suc i) (tag (suc i))) (cl.parents i (tag (suc (suc i))) (tag (suc i)) p)
 
   pub changes_not : k ≡ n → changes t w ≡ false
   changes_not e = ap not (ap held (last_node_is w tag n ts t) ∙ held_to 0 n (omega arith) (omega (arith, ts.some)))

@@ -3,37 +3,15 @@ use Rattle.std.proofs.Common.{◌≡◌, ℕ, suc, ◌<◌, ◌≤◌, true, Lis
 use Rattle.order.specs.Lists.{Mem}
 use Rattle.revision.specs.Trees.{content_at}
 use Rattle.revision.specs.Heads.{Head, Above, Descending, Heads}
-use Rattle.tables.specs.declared.HeldRevision.{HeldRevision}
-use Rattle.tables.specs.declared.Content.{Content}
-use Rattle.tables.specs.Searches.{first}
-use Rattle.tables.specs.Tables.{is_revision, tree_at, node_of, slotted, content_of, no_content}
+use Rattle.revision.proofs.Heads.{above_not, first_above, below_first}
+use Rattle.entries.specs.declared.HeldRevision.{HeldRevision}
+use Rattle.entries.specs.declared.Content.{Content}
+use Rattle.entries.specs.Searches.{first}
+use Rattle.entries.specs.Entries.{is_revision, tree_at, node_of, slotted, content_of, no_content}
 use Rattle.tables.specs.Sound.{SoundRevisions}
-use Rattle.tables.proofs.Lookups.{first_element}
+use Rattle.entries.proofs.Lookups.{first_element}
 use Rattle.tables.proofs.Entries.{three_same}
 use Rattle.tables.proofs.Pigeons.{Distinct, few}
-
-above_not : (h : Head) → Above h h → ⊥
-above_not h (inl e) = omega arith
-above_not h (inr (e, inl f)) = omega arith
-above_not h (inr (e, inr f)) = omega (arith, f.1)
-
-above_trans : (h k l : Head) → Above h k → Above k l → Above h l
-above_trans h k l (inl e) (inl f) = inl (omega arith)
-above_trans h k l (inl e) (inr f) = inl (omega (arith, f.0))
-above_trans h k l (inr e) (inl f) = inl (omega (arith, e.0))
-above_trans h k l (inr (e, inl g)) (inr (f, inl i)) = inr (e ∙ f, inl (omega arith))
-above_trans h k l (inr (e, inl g)) (inr (f, inr i)) = inr (e ∙ f, inl (omega (arith, i.0)))
-above_trans h k l (inr (e, inr g)) (inr (f, inl i)) = inr (e ∙ f, inl (omega (arith, g.0)))
-above_trans h k l (inr (e, inr g)) (inr (f, inr i)) = inr (e ∙ f, inr (i.0 ∙ g.0, omega (arith, g.1, i.1)))
-
-first_above : (h : Head) (hs : List Head) → Descending (h ∷ hs) → (k : Head) → Mem k hs → Above h k
-first_above h [] d k m = absurd m
-first_above h (x ∷ xs) d k (inl e) = subst (λ (z : Head). Above h z) (sym e) d.0
-first_above h (x ∷ xs) d k (inr m) = above_trans h x k d.0 (first_above x xs d.1 k m)
-
-below_first : (h : Head) (hs : List Head) → Descending (h ∷ hs) → Descending hs
-below_first h [] d = tt
-below_first h (x ∷ xs) d = d.1
 
 module _ (m : ℕ) (rs : List HeldRevision) (cs : List Content) (d : ℕ) (sound : SoundRevisions m rs cs) where
   -- a head has an entry with a slot

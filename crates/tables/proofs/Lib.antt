@@ -1,14 +1,7 @@
-pub mod Searching
-pub mod Keys
-pub mod Lookups
-pub mod Rows
-pub mod Held
 pub mod Inputs
-pub mod LogEntries
+pub mod TagBytes
 pub mod Standings
 pub mod NewRows
-pub mod Contents
-pub mod Slots
 pub mod PathPlaces
 pub mod PathRule
 pub mod Growth
@@ -23,11 +16,3 @@ pub mod PathWritten
 pub mod PathGiven
 pub mod LogWriting
 pub mod SoundLines
-pub mod Bodies
-pub mod Climbing
-pub mod Holders
-pub mod LineReads
-pub mod HeadLists
-pub mod HeadOrder
-pub mod HeadsArranged
-pub mod HeadReads

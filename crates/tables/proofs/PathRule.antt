@@ -2,9 +2,9 @@
 use Rattle.std.proofs.Common.{◌≡◌, ℕ, zero, suc, ◌-◌, ◌<◌, ◌≤◌, Bool, true, false, cond, eqb, ◌⊎◌, List, [], ◌∷◌, length, get_or, drop, Some, sym, refl, ap, ◌∙◌, subst, inl, inr, ⊎_elim, arith}
 use Rattle.std.proofs.lemmas.Bool.{eq-eqb, ne_eqb, cases_eq, cases_lt}
 use Rattle.order.specs.Lists.{final}
-use Rattle.revision.specs.Trees.{Content, Node, absent, inner, head, Tree, held, parent, level, Compatible}
+use Rattle.revision.specs.Trees.{Content, Node, absent, inner, head, Tree, held, parent, Compatible}
 use Rattle.revision.specs.Paths.{Path, path_tree, last_node, touched, at_last, Contradicted}
-use Rattle.tables.specs.declared.Standing.TheVariants.{Missing, Agrees, Against}
+use Rattle.tables.specs.Paths.{Missing, Agrees, Against}
 use Rattle.tables.specs.Paths.{stands, standing, Clash}
 use Rattle.tables.proofs.PathPlaces.{before, chain_at, chain_past, final_at, behind_last, behind_more, before_at}
 
@@ -89,11 +89,6 @@ pub touched_retired : (a : Node) (p : ℕ) (ys : List ℕ) (c : Content) → hel
 touched_retired absent p ys c e = let z : ◌≡◌ {A = ℕ} 0 1 = cc in absurd (omega arith)
 touched_retired (inner q) p ys c e = refl
 touched_retired (head q d) p ys c e = refl
-
-pub held_level : (a : Node) → level a ≡ 2 → held a ≡ true
-held_level absent e = absurd (omega arith)
-held_level (inner q) e = refl
-held_level (head q c) e = refl
 
 -- Paths ---------------------------------------------------------------------------------------------------------------
 

@@ -3,13 +3,13 @@ use Rattle.std.proofs.Common.{◌≡◌, ℕ, suc, ◌+◌, ◌-◌, ◌<◌, �
 use Rattle.std.proofs.lemmas.Bool.{cases_eq, cases_lt}
 use Rattle.revision.specs.Trees.{Node, absent, Tree, held, Closed}
 use Rattle.revision.specs.Paths.{Path}
-use Rattle.tables.specs.declared.HeldRevision.{HeldRevision}
-use Rattle.tables.specs.declared.Content.{Content}
-use Rattle.tables.specs.Searches.{place}
-use Rattle.tables.specs.Tables.{is_revision, tree_at, node_of, slotted}
-use Rattle.tables.specs.Paths.{standing, Newest, slot_at, no_revision}
+use Rattle.entries.specs.declared.HeldRevision.{HeldRevision}
+use Rattle.entries.specs.declared.Content.{Content}
+use Rattle.entries.specs.Searches.{place}
+use Rattle.entries.specs.Entries.{is_revision, tree_at, node_of, slotted, slot_at, no_revision}
+use Rattle.tables.specs.Paths.{standing, Newest}
 use Rattle.tables.specs.Room.{missing, is_head, newest_head}
-use Rattle.tables.proofs.Searching.{found, not_found}
+use Rattle.entries.proofs.Searching.{found, not_found}
 use Rattle.tables.proofs.PathRule.{Tags}
 use Rattle.tables.proofs.Growth.{gone, held_to}
 

@@ -1,25 +1,18 @@
 -- In sound tables every held revision has the line of its ancestors.
-use Rattle.std.proofs.Common.{◌≡◌, ℕ, zero, suc, ◌+◌, ◌≤◌, true, List, [], ◌∷◌, ◌++◌, length, Some, None, vec_items, Option, sym, refl, ap, ◌∙◌, subst, arith}
+use Rattle.std.proofs.Common.{◌≡◌, ℕ, zero, suc, ◌+◌, true, List, [], ◌∷◌, ◌++◌, length, Some, None, vec_items, Option, sym, refl, ap, ◌∙◌, subst, arith}
 use Rattle.std.proofs.lemmas.List.{length_push}
 use Rattle.std.proofs.lemmas.Bool.{false≢true}
 use Rattle.order.specs.Lists.{final}
+use Rattle.order.proofs.Lists.{final_more}
 use Rattle.revision.specs.Ids.{Id}
-use Rattle.revision.specs.Trees.{Node, absent, inner, head, Tree, held, parent, level, Closed}
+use Rattle.revision.specs.Trees.{Tree, held, parent, Closed}
 use Rattle.revision.specs.Paths.{Linked, Line}
+use Rattle.revision.proofs.Writes.{parent_of, level_held}
 use Rattle.tables.specs.declared.Tables.{Tables}
-use Rattle.tables.specs.Searches.{place}
-use Rattle.tables.specs.Tables.{is_document, tree_from, documents_of}
+use Rattle.entries.specs.Searches.{place}
+use Rattle.entries.specs.Entries.{is_document, tree_from}
+use Rattle.tables.specs.Tables.{documents_of}
 use Rattle.tables.specs.Sound.{Sound}
-
-parent_of : (a : Node) → held a ≡ true → (p : ℕ) × (parent a ≡ Some p)
-parent_of absent e = absurd (false≢true e)
-parent_of (inner p) e = (p, refl)
-parent_of (head p c) e = (p, refl)
-
-inner_held : (a : Node) → level a ≡ 2 → held a ≡ true
-inner_held absent e = absurd (omega arith)
-inner_held (inner p) e = refl
-inner_held (head p c) e = refl
 
 linked_push : (t : Tree) (g q : ℕ) (ys : List ℕ) (x : ℕ) → Linked t g q ys → parent (t (g + length ys) x) ≡ Some (final (q ∷ ys)) → Linked t g q (ys ++ (x ∷ []))
 linked_push t g q [] x l e = let z : g + 0 ≡ g = omega arith in (subst (λ (k : ℕ). parent (t k x) ≡ Some q) z e, tt)
@@ -30,10 +23,6 @@ final_push [] x = refl
 final_push (y ∷ []) x = refl
 final_push (y ∷ z ∷ zs) x = final_push (z ∷ zs) x
 
-final_behind : (q : ℕ) (ys : List ℕ) → 1 ≤ length ys → final (q ∷ ys) ≡ final ys
-final_behind q [] h = absurd (omega arith)
-final_behind q (y ∷ ys) h = refl
-
 pub line_of : (t : Tree) → Closed t → ((x p : ℕ) → parent (t 1 x) ≡ Some p → p ≡ 0) → (g x : ℕ) → held (t g x) ≡ true → (tags : List ℕ) × Line t g x tags
 line_of t k r zero x h = absurd (false≢true (sym (ap held (k.none x)) ∙ h))
 line_of t k r (suc zero) x h =
@@ -41,10 +30,10 @@ line_of t k r (suc zero) x h =
     (x ∷ [], record { long = refl; ends = refl; linked = (o.1 ∙ ap (λ (p : ℕ). Some p) (r x o.0 o.1), tt) })
 line_of t k r (suc (suc g)) x h =
     let o = parent_of (t (suc (suc g)) x) h in
-    let i = line_of t k r (suc g) o.0 (inner_held (t (suc g) o.0) (k.parents g x o.0 o.1)) in
+    let i = line_of t k r (suc g) o.0 (level_held (t (suc g) o.0) (k.parents g x o.0 o.1)) in
     let n : length i.0 ≡ suc g = i.1.long in
     let m : suc (suc g) ≡ 1 + length i.0 = omega arith in
-    let f : final (0 ∷ i.0) ≡ o.0 = final_behind 0 i.0 (omega arith) ∙ i.1.ends in (
+    let f : final (0 ∷ i.0) ≡ o.0 = final_more 0 i.0 (omega arith) ∙ i.1.ends in (
       i.0 ++ (x ∷ []),
       record {
         long = length_push i.0 x ∙ omega arith;

@@ -8,14 +8,14 @@ use Rattle.revision.specs.Ids.{good_generation, good_tag}
 use Rattle.revision.specs.Paths.{Path, written}
 use Rattle.revision.specs.Trees as Trees
 use Rattle.revision.specs.Trees.{absent, inner, head, Tree}
-use Rattle.tables.specs.declared.HeldRevision.{HeldRevision}
-use Rattle.tables.specs.declared.Content.{Content}
-use Rattle.tables.specs.Searches.{first, place, Once, Every, count}
-use Rattle.tables.specs.Tables.{is_revision, tree_at, node_of, slotted, content_of, no_content}
+use Rattle.entries.specs.declared.HeldRevision.{HeldRevision}
+use Rattle.entries.specs.declared.Content.{Content}
+use Rattle.entries.specs.Searches.{first, place, Once, Every, count}
+use Rattle.entries.specs.Entries.{is_revision, tree_at, node_of, slotted, content_of, no_content, no_revision, slot_at}
 use Rattle.tables.specs.Sound.{has_slot, SoundRevisions}
-use Rattle.tables.specs.Paths.{without_slot, no_revision, stripped, slot_at, slot_for, placed, row, rows, standing, Newest}
-use Rattle.tables.proofs.Searching.{found, not_found, not_both, false_if}
-use Rattle.tables.proofs.Lookups.{first_element, none_passes}
+use Rattle.tables.specs.Paths.{without_slot, stripped, slot_for, placed, row, rows, standing, Newest}
+use Rattle.entries.proofs.Searching.{found, not_found, not_both, false_if}
+use Rattle.entries.proofs.Lookups.{first_element, none_passes}
 use Rattle.tables.proofs.PathRule.{retired, Tags}
 use Rattle.tables.proofs.Growth.{Grown, grown_written, grown_closed, grown_roots}
 use Rattle.tables.proofs.Entries.{three_same, three_true, first_append, set_other, set_only, count_append, count_set, rows_length, rows_at, rows_miss, rows_hit, rows_slots}

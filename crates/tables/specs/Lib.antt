@@ -1,8 +1,7 @@
-pub mod Searches
+pub mod Tags
+pub mod PathReads
 pub mod Tables
 pub mod Sound
 pub mod Room
-pub mod Reads
+pub mod Calls
 pub mod Paths
-pub mod LogWrites
-pub mod Heads

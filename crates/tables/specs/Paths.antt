@@ -1,24 +1,27 @@
 -- How a path is written to the tables.
-use Rattle.std.specs.Prelude.{◌≡◌, ℕ, ◌+◌, ◌-◌, ◌*◌, ◌<◌, ◌≤◌, cond, ◌⊎◌, List, [], ◌∷◌, ◌++◌, map, length, get_or, take, drop, Some, None, Ok, Err, vec_items, vec_capacity, Option, Result, ◌==◌, ◌≢◌, nat_lt, slice_index_or, slice_set}
+use Rattle.std.specs.Prelude.{◌≡◌, ℕ, ◌+◌, ◌-◌, ◌<◌, ◌≤◌, cond, ◌⊎◌, List, [], ◌∷◌, ◌++◌, map, length, Some, None, Ok, Err, vec_items, vec_capacity, Option, Result, MatchOption, ◌==◌, ◌≢◌, nat_lt, slice_index_or, slice_set}
 use Rattle.std.specs.List.{range_with_len}
 use Rattle.decline.specs.declared.Fault.{Fault}
 use Rattle.decline.specs.Faults.{bare}
 use Rattle.revision.specs.declared.DocumentId.{DocumentId}
-use Rattle.octets.specs.BigEndian.{number}
 use Rattle.revision.specs.Trees as Trees
 use Rattle.revision.specs.Trees.{Node, absent, inner, head, Tree}
-use Rattle.tables.specs.declared.Document.{Document}
-use Rattle.tables.specs.declared.HeldRevision.{HeldRevision}
-use Rattle.tables.specs.declared.Content.{Content}
-use Rattle.tables.specs.declared.Standing.{Standing}
+use Rattle.entries.specs.declared.Document.{Document}
+use Rattle.entries.specs.declared.HeldRevision.{HeldRevision}
+use Rattle.entries.specs.declared.Content.{Content}
+use Rattle.tables.specs.declared.NewestHeld.{NewestHeld}
 use Rattle.tables.specs.declared.Tables.{Tables}
-use Rattle.tables.specs.Searches.{place}
-use Rattle.tables.specs.Tables.{content_of, no_content, tree_at, is_revision}
-use Rattle.tables.specs.declared.Standing.TheVariants.{Missing, Agrees, Against}
+use Rattle.tables.specs.declared.path.Path.{Path}
+use Rattle.tables.specs.Tags.{tag_at}
+use Rattle.tables.specs.PathReads.{path_of}
+use Rattle.entries.specs.Searches.{place}
+use Rattle.entries.specs.Entries.{content_of, no_content, no_revision, slot_at, tree_at, is_revision}
 
--- the tag of generation g of a path, whose bytes have generation 1 first; 0 at generation 0
-unfoldable pub tag_at : List ℕ → ℕ → ℕ
-tag_at bs g = cond (g == 0) 0 (number (take 8 (drop (8 * (g - 1)) bs)))
+-- how a revision of a path stands to the revisions that are held: it is missing, held under the path's parent, or under another
+pub data Standing : Type 0 where
+  Missing : Standing
+  Agrees : Standing
+  Against : Standing
 
 -- how a node stands to a path that has it under a parent
 abbrev pub stands : Node → ℕ → Standing
@@ -45,19 +48,10 @@ pub record Newest (s : ℕ → Standing) (n k : ℕ) : Type 0 where
 abbrev pub without_slot : HeldRevision → HeldRevision
 without_slot r = record { document = r.document; generation = r.generation; tag = r.tag; parent = r.parent; slot = None }
 
--- an entry that says nothing, for a place that is not there
-abbrev pub no_revision : HeldRevision
-no_revision = record { document = 0; generation = 0; tag = 0; parent = 0; slot = None }
-
 -- the entries with the slot taken from one of them
 abbrev pub stripped : List HeldRevision → Option ℕ → List HeldRevision
 stripped rs None = rs
 stripped rs (Some i) = slice_set rs i (without_slot (slice_index_or rs i no_revision))
-
--- the slot of the entry at a place, if it is a head's
-abbrev pub slot_at : List HeldRevision → Option ℕ → Option ℕ
-slot_at rs None = None
-slot_at rs (Some i) = (get_or rs i no_revision).slot
 
 -- the contents with a new one, in the slot of another or behind all, and its slot
 abbrev pub placed : List Content → Option ℕ → Content → List Content
@@ -79,10 +73,6 @@ rows d tag n s k m = map (row d tag n s) (range_with_len (k + 1) m)
 -- the documents with a new entry at a place, or behind all
 abbrev pub renewed : List Document → ℕ → Document → List Document
 renewed ds i d = cond (nat_lt i (length ds)) (slice_set ds i d) (ds ++ (d ∷ []))
-
--- a mark and a body
-abbrev pub content : ℕ → List ℕ → Trees.Content
-content m b = record { mark = m; body = b }
 
 -- a slot keeps a content; a revision without one keeps nothing else
 abbrev pub Keeps : List Content → Option ℕ → Trees.Content → Type 0
@@ -124,13 +114,45 @@ entry_of t d tag k = place (is_revision d k (tag k)) 0 (vec_items t.revisions)
 abbrev pub slot_of : Tables → ℕ → (ℕ → ℕ) → ℕ → Option ℕ
 slot_of t d tag k = slot_at (vec_items t.revisions) (entry_of t d tag k)
 
--- What a path write of good input does to the tables. It is declined 34 if a generation is held under another parent, or the last one is a head with other
--- content; it changes nothing if the last one is held; else it is declined 35 for want of room, or written.
-abbrev pub Wrote : Tables → DocumentId → ℕ → (ℕ → ℕ) → ℕ → Trees.Content → Result ℕ Fault → Tables → Type 0
-Wrote t id d tag n c (Ok a) u =
-    ((a ≡ 0) × Newest (standing (tree_in t d) tag) n n × Keeps (vec_items t.contents) (slot_of t d tag n) c × (u ≡ t)) ⊎
-    ((a ≡ 1) × ((k : ℕ) × (k < n) × Newest (standing (tree_in t d) tag) n k × Fits t d (n - k) (slot_of t d tag k) ×
-    ((x : Content) × (content_of x ≡ c) × (x.length ≤ 96) × Extended t id d tag n k (entry_of t d tag k) (slot_of t d tag k) x u)))
-Wrote t id d tag n c (Err e) u = (u ≡ t) × (
-    ((e ≡ bare 34) × (Clash (standing (tree_in t d) tag) n ⊎ (Newest (standing (tree_in t d) tag) n n × (Keeps (vec_items t.contents) (slot_of t d tag n) c → ⊥)))) ⊎
-    ((e ≡ bare 35) × ((k : ℕ) × (k < n) × Newest (standing (tree_in t d) tag) n k × (Fits t d (n - k) (slot_of t d tag k) → ⊥))))
+-- a place that is one of the entries', or none
+abbrev pub Inside : Tables → Option ℕ → Type 0
+Inside t o = MatchOption o Unit (λ i. i < length (vec_items t.revisions))
+
+-- the tag of a path's generation
+abbrev pub tag_in : Path → ℕ → ℕ
+tag_in p = tag_at p.tags.now
+
+-- looking for generation g of a path: no place where it is missing, its entry's where it is held; declined 34 where it is held under another parent
+abbrev pub LookedUp : Tables → ℕ → Path → ℕ → Result (Option ℕ) Fault → Type 0
+LookedUp t d p g (Ok None) = standing (tree_in t d) (tag_in p) g ≡ Missing
+LookedUp t d p g (Ok (Some i)) = (standing (tree_in t d) (tag_in p) g ≡ Agrees) × (entry_of t d (tag_in p) g ≡ Some i) × (i < length (vec_items t.revisions))
+LookedUp t d p g (Err e) = (standing (tree_in t d) (tag_in p) g ≡ Against) × (e ≡ bare 34)
+
+-- of the first n generations of a path the newest that is held, or 0, with the place of its entry and its slot
+pub record NewestAt (t : Tables) (d : ℕ) (p : Path) (n : ℕ) (h : NewestHeld) : Type 0 where
+  pub newest : Newest (standing (tree_in t d) (tag_in p)) n h.generation
+  pub entry : h.place ≡ entry_of t d (tag_in p) h.generation
+  pub slot : h.slot ≡ slot_of t d (tag_in p) h.generation
+  pub within : Inside t h.place
+  pub there : MatchOption h.slot Unit (λ s. s < length (vec_items t.contents))
+
+-- reading the newest generation of a path that is held; declined 34 where one is held under another parent
+abbrev pub NewestRead : Tables → ℕ → Path → Result NewestHeld Fault → Type 0
+NewestRead t d p (Ok h) = NewestAt t d p p.generation h
+NewestRead t d p (Err e) = Clash (standing (tree_in t d) (tag_in p)) p.generation × (e ≡ bare 34)
+
+-- the tables with a path after its newest held generation
+abbrev pub Grown : Tables → ℕ → Path → NewestHeld → Tables → Type 0
+Grown t d p h u = (x : Content) × (content_of x ≡ (path_of p).content) × (x.length ≤ 96) × Extended t p.id d (tag_in p) p.generation h.generation h.place h.slot x u
+
+-- What a path write does to the tables. It is declined 34 if a generation is held under another parent, or the last one is a head with other content; it
+-- changes nothing if the last one is held; else it is declined 35 for want of room, or written.
+abbrev pub Wrote : Tables → ℕ → Path → Result ℕ Fault → Tables → Type 0
+Wrote t d p (Ok a) u =
+    ((a ≡ 0) × Newest (standing (tree_in t d) (tag_in p)) p.generation p.generation × Keeps (vec_items t.contents) (slot_of t d (tag_in p) p.generation) (path_of p).content × (u ≡ t)) ⊎
+    ((a ≡ 1) × ((k : ℕ) × (k < p.generation) × Newest (standing (tree_in t d) (tag_in p)) p.generation k × Fits t d (p.generation - k) (slot_of t d (tag_in p) k) ×
+    ((x : Content) × (content_of x ≡ (path_of p).content) × (x.length ≤ 96) × Extended t p.id d (tag_in p) p.generation k (entry_of t d (tag_in p) k) (slot_of t d (tag_in p) k) x u)))
+Wrote t d p (Err e) u = (u ≡ t) × (
+    ((e ≡ bare 34) × (Clash (standing (tree_in t d) (tag_in p)) p.generation ⊎
+    (Newest (standing (tree_in t d) (tag_in p)) p.generation p.generation × (Keeps (vec_items t.contents) (slot_of t d (tag_in p) p.generation) (path_of p).content → ⊥)))) ⊎
+    ((e ≡ bare 35) × ((k : ℕ) × (k < p.generation) × Newest (standing (tree_in t d) (tag_in p)) p.generation k × (Fits t d (p.generation - k) (slot_of t d (tag_in p) k) → ⊥))))

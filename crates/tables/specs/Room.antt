@@ -3,8 +3,9 @@ use Rattle.std.specs.Prelude.{ℕ, suc, ◌+◌, Bool, true, false, cond, ◌&&�
 use Rattle.revision.specs.Trees.{Node, absent, inner, head, Tree, held}
 use Rattle.peer.specs.Peers.{Write, path, entry}
 use Rattle.tables.specs.declared.Tables.{Tables}
-use Rattle.tables.specs.Searches.{place}
-use Rattle.tables.specs.Tables.{is_document, is_log, documents_of}
+use Rattle.entries.specs.Searches.{place}
+use Rattle.entries.specs.Entries.{is_document, is_log}
+use Rattle.tables.specs.Tables.{documents_of}
 
 -- how many of a path's revisions, from generation g on, a tree does not hold
 abbrev pub missing : Tree → ℕ → List ℕ → ℕ

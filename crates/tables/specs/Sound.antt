@@ -3,13 +3,14 @@ use Rattle.std.specs.Prelude.{◌≡◌, ℕ, ◌<◌, ◌≤◌, Bool, true, Li
 use Rattle.revision.specs.Ids.{Id, IsId, good_generation, good_tag}
 use Rattle.revision.specs.Trees.{parent, Closed}
 use Rattle.keys.specs.Keys.{Key}
-use Rattle.tables.specs.declared.Document.{Document}
-use Rattle.tables.specs.declared.HeldRevision.{HeldRevision}
-use Rattle.tables.specs.declared.Content.{Content}
-use Rattle.tables.specs.declared.KeyedLog.{KeyedLog}
+use Rattle.checkpoint.specs.Values.{pairs, entries_of}
+use Rattle.entries.specs.declared.Document.{Document}
+use Rattle.entries.specs.declared.HeldRevision.{HeldRevision}
+use Rattle.entries.specs.declared.Content.{Content}
+use Rattle.entries.specs.declared.KeyedLog.{KeyedLog}
 use Rattle.tables.specs.declared.Tables.{Tables}
-use Rattle.tables.specs.Searches.{Once, Every, count}
-use Rattle.tables.specs.Tables.{is_revision, is_document, is_log, tree_at}
+use Rattle.entries.specs.Searches.{Once, Every, count}
+use Rattle.entries.specs.Entries.{is_revision, is_document, is_log, tree_at}
 
 -- every document has a good id that stands once, and a last change number of its own, from 1 to the highest
 pub record SoundDocuments (ds : List Document) (highest : ℕ) : Type 0 where
@@ -36,9 +37,10 @@ pub record SoundRevisions (documents : ℕ) (rs : List HeldRevision) (cs : List 
   pub all_slots : count has_slot rs ≡ length cs
   pub bodies : Every (λ c. c.length ≤ 96) cs
 
--- every log stands once
+-- every log stands once, and has an entry: no place is taken by a log that was never written
 pub record SoundLogs (ls : List KeyedLog) : Type 0 where
   pub once : (k : Key) → Once (is_log k) ls
+  pub written : Every (λ l. 1 ≤ length (pairs (entries_of l.log))) ls
 
 -- memory is reserved for 32 documents, 1,024 revisions, 64 heads and 8 logs, and there are no more
 pub record Reserved (t : Tables) : Type 0 where

@@ -2,244 +2,117 @@
 // taken once, when they are made.
 #![tactic(auto)]
 
-ghost use Rattle.std.specs.Prelude.{◌≡◌, ◌+◌, ◌-◌, ◌*◌, ◌<◌, ◌≤◌, ◌++◌, length, IfSome, IfOk, if◌then◌else◌, Some, None, Ok, vec_len, vec_capacity, Decides, MatchOption, nat_eq, slice_index_or};
+ghost use Rattle.std.specs.Prelude.{◌≡◌, ◌+◌, ◌-◌, ◌*◌, ◌<◌, ◌≤◌, ◌++◌, length, IfSome, IfOk, Some, None, Ok, vec_len, vec_capacity, Decides, MatchOption, slice_index_or};
 ghost use Rattle.octets.specs.Packed.{unpacked};
-ghost use Rattle.order.specs.Lists.{same};
-ghost use Rattle.revision.specs.Values.{mark_number};
-ghost use Rattle.keys.specs.Keys.{same_key};
-ghost use Rattle.keys.specs.Values.{key_of};
-ghost use Rattle.checkpoint.specs.Values.{pair};
 ghost use Rattle.peer.specs.Records.{blank};
-ghost use Rattle.octets.specs.BigEndian.{eights};
-ghost use Rattle.revision.specs.Ids.{IsId};
 ghost use Rattle.peer.specs.Peers.{path};
 ghost use Rattle.peer.specs.Functions.{Function, path_given};
-ghost use Rattle.peer.specs.Replies.{plain, perhaps, row_of, RowHasId};
-ghost use Rattle.tables.specs.Searches.{place};
-ghost use Rattle.tables.specs.Tables.{record_of, is_revision, is_document, is_log, tree_at, content_of};
+ghost use Rattle.peer.specs.Replies.{plain};
+ghost use Rattle.entries.specs.Searches.{place};
+ghost use Rattle.tables.specs.Tables.{record_of};
+ghost use Rattle.entries.specs.Entries.{is_document, slot_at};
+ghost use Rattle.tables.specs.Tags.{tag_at};
+ghost use Rattle.tables.specs.PathReads.{path_of};
 ghost use Rattle.tables.specs.Sound.{Sound, Reserved};
-ghost use Rattle.tables.specs.Paths.{tag_at, standing, Clash, Newest, stripped, slot_at, slot_for, placed, rows, renewed, content, Keeps, Fits, Extended, Wrote, place_for};
+ghost use Rattle.tables.specs.Paths.{LookedUp, NewestRead, stripped, slot_for, placed, rows, renewed, Keeps, Fits, Grown, Wrote, place_for};
 ghost use Rattle.std.specs.Borrow.{sem, follows};
 ghost use Rattle.std.specs.Vec.{with_item};
 ghost use Rattle.tables.specs.contracts.Tables.{the_row};
-ghost use Rattle.tables.specs.contracts.HeldRevision.{the_row as revision_row};
-ghost use Rattle.tables.specs.Reads.{Answered, Reads, Stands, NextOf, Earlier, PathLength, PathReplied, Writes};
+ghost use Rattle.entries.specs.contracts.HeldRevision.{the_row as revision-row};
+ghost use Rattle.tables.specs.Calls.{PathReplied, Writes};
 
-use checkpoint::{Entry, Log};
 use decline::{Decline, Fault};
-use keys::Key;
-use octets::{Packed, lay, number_of};
-use peer::Row;
-use revision::{DocumentId, Mark, Revision};
+use entries::{Content, Document, HeldRevision, KeyedLog, RevisionOf, place_in};
+use path::Path;
+use revision::{DocumentId, Revision};
 use std::alloc::{AllocError, Global};
 
-// A document with its last change number.
-#[derive(Clone, Copy)]
-struct Document {
-    id: DocumentId,
-    last: u32,
+// How many documents, revisions, heads and logs there is room for.
+const DOCUMENTS: usize = 32;
+
+const REVISIONS: usize = 1024;
+
+const HEADS: usize = 64;
+
+const LOGS: usize = 8;
+
+// The tables. Whoever changes them must keep them sound: every call asks for that.
+// Kept: by a rule of the project the tables stand in a record without an invariant in its type; its calls keep `Sound`.
+#[derive(Drop)]
+pub struct Tables {
+    pub documents: Vec<Document>,
+    pub revisions: Vec<HeldRevision>,
+    pub contents: Vec<Content>,
+    pub logs: Vec<KeyedLog>,
+    pub highest: u32,
 }
 
-// A revision that is held: its document's place, its parent's tag, and, if it is a head, the slot of its content.
+// The newest generation of a path that is held, the place of its entry, and its slot if it is a head; generation 0,
+// with neither, where none is held.
+// Kept: what is missing is counted from this generation; an `Option` of all three would be unpacked at every use.
 #[derive(Clone, Copy)]
-struct HeldRevision {
-    document: u8,
+struct NewestHeld {
     generation: u8,
-    tag: u64,
-    parent: u64,
+    place: Option<usize>,
     slot: Option<u8>,
 }
 
-// What a head keeps: its mark, and as many bytes of the body as the length says.
-#[derive(Clone, Copy)]
-struct Content {
-    mark: Mark,
-    length: u8,
-    body: [u8; 96],
-}
-
-// The log of a key.
-#[derive(Clone, Copy)]
-struct KeyedLog {
-    key: Key,
-    log: Log,
-}
-
-// The tables: room for 32 documents, 1,024 revisions, 64 heads and 8 logs.
-#[derive(Drop)]
-pub struct Tables {
-    documents: Vec<Document>,
-    revisions: Vec<HeldRevision>,
-    contents: Vec<Content>,
-    logs: Vec<KeyedLog>,
-    highest: u32,
-}
-
-// How a revision of a path stands to the revisions that are held: it is missing, held under the path's parent, or under
-// another.
-#[derive(Clone, Copy)]
-enum Standing {
-    Missing,
-    Agrees,
-    Against,
-}
-
-mod heads;
 mod logs;
+mod path;
 
-impl HeldRevision {
-    // Whether this is the entry of a document's revision.
-    fn is(&self, document: u8, generation: u8, tag: u64) -> bool
-        ensures { result ≡ is_revision document generation tag self.now }
-    {
-        self.document == document && self.generation == generation && self.tag == tag
-    }
-}
-
-impl Content {
-    // A content of a mark and a body.
-    fn new(mark: Mark, body: &[u8]) -> Content
-        requires { length body.now ≤ 96 }
-        ensures is { content_of result ≡ content (mark_number mark) body.now }
-        ensures short { result.length ≤ 96 }
-    {
-        let mut all = [0u8; 96];
-        lay(&mut all, body);
-        Content {
-            mark,
-            length: body.len() as u8,
-            body: all,
+// Lays a content into a slot, or into a new one, and answers which.
+fn place_content(contents: &mut Vec<Content>, slot: Option<u8>, content: Content) -> u8
+    requires room { MatchOption slot (length contents.old.items < 64) (λ s. s < length contents.old.items) }
+    requires capacity { 64 ≤ vec_capacity contents.old }
+    ensures slot { result ≡ slot_for contents.old.items slot }
+    ensures contents { contents.new.items ≡ placed contents.old.items slot content }
+    ensures capacity { vec_capacity contents.new ≡ vec_capacity contents.old }
+{
+    match slot {
+        Some(s) => {
+            contents[s as usize] = content;
+            s
+        }
+        None => {
+            let s = contents.len() as u8;
+            contents.push_reserved(content);
+            s
         }
     }
+}
 
-    // Whether it keeps this mark and body.
-    fn is(&self, mark: Mark, body: &[u8]) -> bool
-        ensures { Decides result (content_of self.now ≡ content (mark_number mark) body.now) }
-    {
-        let n = (self.length as usize).min(96);
-        self.mark == mark && &self.body[0..n] == body
+// Adds the entries of the generations of a path after generation k; the last has a slot.
+fn add_missing(revisions: &mut Vec<HeldRevision>, document: u8, path: &Path, k: u8, slot: u8)
+    requires capacity { 1024 ≤ vec_capacity revisions.old }
+    requires order { k ≤ path.now.generation }
+    requires room { vec_len revisions.old + (path.now.generation - k) ≤ 1024 }
+    ensures revisions { revisions.new.items ≡ revisions.old.items ++ rows document (tag_at path.now.tags.now) path.now.generation slot k (path.now.generation - k) }
+    ensures capacity { vec_capacity revisions.new ≡ vec_capacity revisions.old }
+{
+    for generation in k + 1..=path.generation {
+        revisions.push_reserved(HeldRevision {
+            tag: path.tag(generation),
+            parent: path.tag(generation - 1),
+            document,
+            generation,
+            slot: (generation == path.generation).then_some(slot),
+        });
     }
 }
 
-// Whether two packed byte strings are the same.
-fn same_bytes(a: Packed, b: Packed) -> bool
-    ensures { result ≡ same (unpacked a) (unpacked b) }
+// A document's entry stands at its place, or behind all.
+fn renew(documents: &mut Vec<Document>, at: usize, document: Document)
+    requires capacity { 32 ≤ vec_capacity documents.old }
+    requires room { at < 32 }
+    requires known { at ≤ vec_len documents.old }
+    ensures documents { documents.new.items ≡ renewed documents.old.items at document }
+    ensures capacity { vec_capacity documents.new ≡ vec_capacity documents.old }
 {
-    let ours = a.bytes();
-    let theirs = b.bytes();
-    let n = (a.length as usize).min(16);
-    let m = (b.length as usize).min(16);
-    &ours[0..n] == &theirs[0..m]
-}
-
-// Whether two keys are the same.
-fn same_key(a: Key, b: Key) -> bool
-    ensures { result ≡ same_key (key_of a) (key_of b) }
-{
-    a.source == b.source && a.target == b.target && same_bytes(a.rule.prefix, b.rule.prefix)
-}
-
-// The place of a document.
-fn document_in(documents: &[Document], id: DocumentId) -> Option<usize>
-    ensures value { result ≡ place (is_document (unpacked id.bytes)) 0 documents.now }
-    ensures within { IfSome result (λ i. i < length documents.now) }
-{
-    for (i, d) in documents.iter().enumerate() {
-        if same_bytes(d.id.bytes, id.bytes) {
-            return Some(i);
-        }
-    }
-    None
-}
-
-// The place of a document's revision.
-fn revision_in(revisions: &[HeldRevision], document: u8, generation: u8, tag: u64) -> Option<usize>
-    ensures value { result ≡ place (is_revision document generation tag) 0 revisions.now }
-    ensures within { IfSome result (λ i. i < length revisions.now) }
-{
-    for (i, r) in revisions.iter().enumerate() {
-        if r.is(document, generation, tag) {
-            return Some(i);
-        }
-    }
-    None
-}
-
-// The place of the log of a key.
-fn log_in(logs: &[KeyedLog], key: Key) -> Option<usize>
-    ensures value { result ≡ place (is_log (key_of key)) 0 logs.now }
-    ensures within { IfSome result (λ i. i < length logs.now) }
-{
-    for (i, l) in logs.iter().enumerate() {
-        if same_key(l.key, key) {
-            return Some(i);
-        }
-    }
-    None
-}
-
-// Of the documents the one with the smallest last change number above n.
-fn next_in(documents: &[Document], n: u32) -> Option<Row>
-    ensures { NextOf documents.now (length documents.now) n result }
-{
-    let mut next: Option<Row> = None;
-    for d in documents {
-        if d.last > n {
-            next = earlier(next, *d);
-        }
-    }
-    next
-}
-
-// A row, or that of a document if it has a smaller change number.
-fn earlier(row: Option<Row>, d: Document) -> Option<Row>
-    ensures { Earlier row d result }
-{
-    if let Some(row) = row {
-        if row.change <= d.last {
-            return Some(row);
-        }
-    }
-    Some(Row {
-        id: d.id,
-        change: d.last,
-    })
-}
-
-// The tag of generation g of a path; 0 where g is 0.
-fn tag_at(tags: &[u8], g: usize) -> u64
-    requires { 8 * g ≤ length tags.now }
-    ensures { result ≡ tag_at tags.now g }
-{
-    if g == 0 {
-        0
+    if at < documents.len() {
+        documents[at] = document;
     } else {
-        number_of(&tags[8 * (g - 1)..8 * g])
+        documents.push_reserved(document);
     }
-}
-
-// The length of a path; declined 12 for a bad generation, or where the tags are not 8 bytes for each generation.
-fn path_length(generation: u8, tags: &[u8]) -> Result<usize, Fault>
-    ensures { PathLength generation tags.now result }
-{
-    if generation == 0 {
-        return Err(Fault::from(Decline::Revision));
-    }
-    if generation > 200 {
-        return Err(Fault::from(Decline::Revision));
-    }
-    let n = generation as usize;
-    if tags.len() != 8 * n {
-        return Err(Fault::from(Decline::Revision));
-    }
-    Ok(n)
-}
-
-// The slot of generation g of a path of n generations, whose last has one.
-fn slot_of(g: usize, n: usize, slot: u8) -> Option<u8>
-    ensures { result ≡ (if nat_eq g n then Some slot else None) }
-{
-    if g == n { Some(slot) } else { None }
 }
 
 impl Tables {
@@ -248,10 +121,10 @@ impl Tables {
         ensures sound { IfOk result (λ t. Sound t) }
         ensures blank { IfOk result (λ t. record_of t ≡ blank) }
     {
-        let documents = Vec::with_capacity(heap, 32)?;
-        let revisions = Vec::with_capacity(heap, 1024)?;
-        let contents = Vec::with_capacity(heap, 64)?;
-        let logs = Vec::with_capacity(heap, 8)?;
+        let documents = Vec::with_capacity(heap, DOCUMENTS)?;
+        let revisions = Vec::with_capacity(heap, REVISIONS)?;
+        let contents = Vec::with_capacity(heap, HEADS)?;
+        let logs = Vec::with_capacity(heap, LOGS)?;
         Ok(Tables {
             documents,
             revisions,
@@ -261,328 +134,162 @@ impl Tables {
         })
     }
 
-    // The place of a revision's entry.
-    fn place_of(&self, id: DocumentId, generation: u8, tag: u64) -> Option<usize>
-        requires { Sound self.now }
-        ensures { Stands self.now (unpacked id.bytes) generation tag result }
+    // How many bytes the tables take: their own, and the memory that is asked for when they are made.
+    pub fn bytes() -> usize
+        ensures { result ≡ 33320 }
     {
-        match document_in(self.documents.as_slice(), id) {
-            None => None,
-            Some(d) => revision_in(self.revisions.as_slice(), d as u8, generation, tag),
-        }
+        let entries = DOCUMENTS * size_of::<Document>() + REVISIONS * size_of::<HeldRevision>();
+        let kept = HEADS * size_of::<Content>() + LOGS * size_of::<KeyedLog>();
+        size_of::<Tables>() + entries + kept
     }
 
-    // The row with the smallest change number above n, or none.
-    pub fn row_after(&self, n: u32) -> Option<Row>
-        requires { Sound self.now }
-        ensures named { RowHasId (Ok result) }
-        ensures row { Answered (Function.row_after n) self.now (perhaps row_of result) }
-    {
-        next_in(self.documents.as_slice(), n)
-    }
-
-    // Whether a revision is held.
-    pub fn is_held(&self, id: &[u8], generation: u8, tag: u64) -> Result<bool, Fault>
-        requires { Sound self.now }
-        ensures { Reads (Function.is_held id.now generation tag) plain self.now result }
-    {
-        let id = DocumentId::read(id)?;
-        let revision = Revision::new(generation, tag)?;
-        match self.place_of(id, revision.generation, revision.tag) {
-            Some(_) => Ok(true),
-            None => Ok(false),
-        }
-    }
-
-    // Entry i of the log of a key, 0 the newest, or none.
-    pub fn log_entry(&self, key: &[u8], i: u32) -> Result<Option<Entry>, Fault>
-        ensures { Reads (Function.log_entry key.now i) (perhaps pair) self.now result }
-    {
-        let key = Key::read(key)?;
-        let logs = self.logs.as_slice();
-        let Some(at) = log_in(logs, key) else {
-            return Ok(None);
-        };
-        Ok(logs[at].log.entry(i as usize))
-    }
-
-    // How generation g of a path stands to the document's revisions.
-    fn standing(&self, document: u8, tags: &[u8], g: usize) -> Standing
-        requires low { 0 < g }
-        requires high { g ≤ 200 }
-        requires within { 8 * g ≤ length tags.now }
-        ensures { result ≡ standing (tree_at self.now.revisions.items self.now.contents.items document) (tag_at tags.now) g }
+    // The place of the entry of a path's generation, if that is held; declined 34 where it is held under another parent.
+    fn look_up(&self, document: u8, path: &Path, generation: u8) -> Result<Option<usize>, Fault>
+        requires low { 0 < generation }
+        requires high { generation ≤ path.now.generation }
+        ensures { LookedUp self.now document path.now generation result }
     {
         let revisions = self.revisions.as_slice();
-        match revision_in(revisions, document, g as u8, tag_at(tags, g)) {
-            None => Standing::Missing,
-            Some(i) => {
-                if revisions[i].parent == tag_at(tags, g - 1) {
-                    Standing::Agrees
-                } else {
-                    Standing::Against
-                }
-            }
+        let revision = RevisionOf {
+            document,
+            revision: Revision {
+                generation,
+                tag: path.tag(generation),
+            },
+        };
+        let Some(i) = place_in(revisions, &revision) else {
+            return Ok(None);
+        };
+        if revisions[i].parent != path.tag(generation - 1) {
+            return Err(Decline::Contradiction.into());
         }
+        Ok(Some(i))
     }
 
-    // The newest generation of a path that is held, or 0; none where one is held under another parent.
-    fn newest_held(&self, document: u8, tags: &[u8], n: usize) -> Option<usize>
-        requires high { n ≤ 200 }
-        requires within { 8 * n ≤ length tags.now }
-        ensures { MatchOption result (Clash (standing (tree_at self.now.revisions.items self.now.contents.items document) (tag_at tags.now)) n) (Newest (standing (tree_at self.now.revisions.items self.now.contents.items document) (tag_at tags.now)) n) }
+    // The newest generation of a path that is held; declined 34 where one is held under another parent. The table is gone
+    // through once for each generation.
+    fn newest_held(&self, document: u8, path: &Path) -> Result<NewestHeld, Fault>
+        requires { Sound self.now }
+        ensures { NewestRead self.now document path.now result }
     {
-        let mut newest = 0;
-        for i in 0..n {
-            match self.standing(document, tags, i + 1) {
-                Standing::Missing => {}
-                Standing::Agrees => newest = i + 1,
-                Standing::Against => return None,
+        let mut newest = NewestHeld {
+            generation: 0,
+            place: None,
+            slot: None,
+        };
+        for generation in 1..=path.generation {
+            if let Some(i) = self.look_up(document, path, generation)? {
+                newest = NewestHeld {
+                    generation,
+                    place: Some(i),
+                    slot: self.slot_at(Some(i)),
+                };
             }
         }
-        Some(newest)
+        Ok(newest)
     }
 
     // An entry of the revisions, lent to be changed.
+    // Kept: by a rule of the project an entry is changed where it stands, lent through the record that has its table.
     fn revision_mut(&mut self, i: usize) -> &mut HeldRevision
         requires { i < vec_len self.old.revisions }
-        ensures* follows { sem 𝓛 (follows the_row revision_row self.entry.ghost_name result.ghost_name (λ w. record { documents = self.old.documents; revisions = with_item self.old.revisions i w; contents = self.old.contents; logs = self.old.logs; highest = self.old.highest })) }
+        ensures* follows { sem 𝓛 (follows the_row revision-row self.entry.ghost_name result.ghost_name (λ w. record { documents = self.old.documents; revisions = with_item self.old.revisions i w; contents = self.old.contents; logs = self.old.logs; highest = self.old.highest })) }
         ensures value { result.now ≡ slice_index_or self.old.revisions.items i result.now }
     {
         &mut self.revisions[i]
     }
 
-    // Takes the slot from an entry, if one is named.
-    fn strip(&mut self, at: Option<usize>)
-        requires { IfSome at (λ i. i < vec_len self.old.revisions) }
-        ensures revisions { self.new.revisions.items ≡ stripped self.old.revisions.items at }
-        ensures many { vec_len self.new.revisions ≡ vec_len self.old.revisions }
-        ensures capacity { vec_capacity self.new.revisions ≡ vec_capacity self.old.revisions }
-        ensures documents { self.new.documents ≡ self.old.documents }
-        ensures contents { self.new.contents ≡ self.old.contents }
-        ensures logs { self.new.logs ≡ self.old.logs }
-        ensures highest { self.new.highest ≡ self.old.highest }
-    {
-        if let Some(i) = at {
-            self.revision_mut(i).slot = None;
-        }
-    }
-
-    // The slot of the entry at a place, if it is a head's.
-    fn slot_at(&self, at: Option<usize>) -> Option<u8>
-        requires sound { Sound self.now }
-        requires there { IfSome at (λ i. i < length self.now.revisions.items) }
+    // The slot of the entry at a place, if it is a head's; none where there is no such place.
+    pub fn slot_at(&self, at: Option<usize>) -> Option<u8>
+        requires { Sound self.now }
         ensures value { result ≡ slot_at self.now.revisions.items at }
         ensures within { IfSome result (λ s. s < length self.now.contents.items) }
     {
-        let revisions = self.revisions.as_slice();
-        match at {
-            None => None,
-            Some(i) => revisions[i].slot,
-        }
+        self.revisions.get(at?)?.slot
     }
 
-    // Lays a content into a slot, or into a new one, and answers which.
-    fn place_content(&mut self, slot: Option<u8>, content: Content) -> u8
-        requires room { MatchOption slot (length self.old.contents.items < 64) (λ s. s < length self.old.contents.items) }
-        requires capacity { 64 ≤ vec_capacity self.old.contents }
-        ensures slot { result ≡ slot_for self.old.contents.items slot }
-        ensures contents { self.new.contents.items ≡ placed self.old.contents.items slot content }
-        ensures capacity { vec_capacity self.new.contents ≡ vec_capacity self.old.contents }
-        ensures documents { self.new.documents ≡ self.old.documents }
-        ensures revisions { self.new.revisions ≡ self.old.revisions }
-        ensures logs { self.new.logs ≡ self.old.logs }
-        ensures highest { self.new.highest ≡ self.old.highest }
-    {
-        match slot {
-            Some(s) => {
-                self.contents[s as usize] = content;
-                s
-            }
-            None => {
-                let s = self.contents.len() as u8;
-                self.contents.push_reserved(content);
-                s
-            }
-        }
-    }
-
-    // Adds the entries of the generations of a path after generation k; the last has a slot.
-    fn add_missing(&mut self, document: u8, tags: &[u8], k: usize, n: usize, slot: u8)
-        requires capacity { 1024 ≤ vec_capacity self.old.revisions }
-        requires order { k ≤ n }
-        requires high { n ≤ 200 }
-        requires within { 8 * n ≤ length tags.now }
-        requires room { vec_len self.old.revisions + (n - k) ≤ 1024 }
-        ensures revisions { self.new.revisions.items ≡ self.old.revisions.items ++ rows document (tag_at tags.now) n slot k (n - k) }
-        ensures capacity { vec_capacity self.new.revisions ≡ vec_capacity self.old.revisions }
-        ensures documents { self.new.documents ≡ self.old.documents }
-        ensures contents { self.new.contents ≡ self.old.contents }
-        ensures logs { self.new.logs ≡ self.old.logs }
-        ensures highest { self.new.highest ≡ self.old.highest }
-    {
-        for g in k..n {
-            let parent = tag_at(tags, g);
-            let tag = tag_at(tags, g + 1);
-            let slot = slot_of(g + 1, n, slot);
-            self.revisions.push_reserved(HeldRevision {
-                document,
-                generation: (g + 1) as u8,
-                tag,
-                parent,
-                slot,
-            });
-        }
-    }
-
-    // Gives a document the next change number; it is known at its place, or new.
-    fn renew(&mut self, id: DocumentId, at: usize)
-        requires capacity { 32 ≤ vec_capacity self.old.documents }
-        requires room { at < 32 }
-        requires known { at ≤ vec_len self.old.documents }
-        requires number { self.old.highest < 4294967295 }
-        ensures documents { self.new.documents.items ≡ renewed self.old.documents.items at (record { id = id; last = self.old.highest + 1 }) }
-        ensures capacity { vec_capacity self.new.documents ≡ vec_capacity self.old.documents }
-        ensures revisions { self.new.revisions ≡ self.old.revisions }
-        ensures contents { self.new.contents ≡ self.old.contents }
-        ensures logs { self.new.logs ≡ self.old.logs }
-        ensures highest { self.new.highest ≡ self.old.highest + 1 }
-    {
-        self.highest += 1;
-        let d = Document {
-            id,
-            last: self.highest,
-        };
-        if at < self.documents.len() {
-            self.documents[at] = d;
-        } else {
-            self.documents.push_reserved(d);
-        }
-    }
-
-    // Whether a slot keeps this mark and body; a revision without a slot keeps nothing else.
-    fn keeps(&self, slot: Option<u8>, mark: Mark, body: &[u8]) -> bool
+    // Whether a slot keeps the mark and the body of a path; a revision without a slot keeps nothing else.
+    fn keeps(&self, slot: Option<u8>, path: &Path) -> bool
         requires { IfSome slot (λ s. s < length self.now.contents.items) }
-        ensures { Decides result (Keeps self.now.contents.items slot (content (mark_number mark) body.now)) }
+        ensures { Decides result (Keeps self.now.contents.items slot (path_of path.now).content) }
     {
         let contents = self.contents.as_slice();
-        match slot {
-            None => true,
-            Some(s) => contents[s as usize].is(mark, body),
-        }
+        let Path { mark, body, .. } = *path;
+        slot.is_none_or(|s| contents[s as usize].keeps(mark, body))
     }
 
     // Whether there is room for a document at a place, so many revisions, a head and a change number.
-    fn has_room(&self, document: usize, missing: usize, slot: Option<u8>) -> bool
-        requires { missing ≤ 200 }
+    fn has_room(&self, document: usize, missing: u8, slot: Option<u8>) -> bool
         ensures { Decides result (Fits self.now document missing slot) }
     {
-        let head = match slot {
-            None => self.contents.len() < 64,
-            Some(_) => true,
-        };
-        document < 32 && self.revisions.len() <= 1024 - missing && head && self.highest < 4294967295
+        document < DOCUMENTS
+            && self.revisions.len() <= REVISIONS - missing as usize
+            && (slot.is_some() || self.contents.len() < HEADS)
+            && self.highest < u32::MAX
     }
 
     // The place of a document, or that behind all.
+    // Kept: the entries of a new document's revisions name its place before it is there, so one number is plainer than an `Option`.
     fn place_for(&self, id: DocumentId) -> usize
         ensures value { result ≡ place_for self.now.documents.items (place (is_document (unpacked id.bytes)) 0 self.now.documents.items) }
         ensures within { result ≤ length self.now.documents.items }
     {
         let documents = self.documents.as_slice();
-        match document_in(documents, id) {
-            Some(i) => i,
-            None => documents.len(),
-        }
+        place_in(documents, &id).unwrap_or(documents.len())
     }
 
     // Adds the generations of a path after the newest held one.
-    fn extend(
-        &mut self,
-        id: DocumentId,
-        document: usize,
-        tags: &[u8],
-        k: usize,
-        n: usize,
-        at: Option<usize>,
-        slot: Option<u8>,
-        content: Content,
-    )
+    fn extend(&mut self, document: usize, path: &Path, newest: NewestHeld)
         requires reserved { Reserved self.old }
-        requires path { (k < n) × (n ≤ 200) × (8 * n ≤ length tags.now) }
+        requires order { newest.generation < path.now.generation }
         requires known { document ≤ length self.old.documents.items }
-        requires there { (IfSome at (λ i. i < length self.old.revisions.items)) × (IfSome slot (λ s. s < length self.old.contents.items)) }
-        requires room { Fits self.old document (n - k) slot }
-        ensures { Extended self.old id document (tag_at tags.now) n k at slot content self.new }
+        requires there { (IfSome newest.place (λ i. i < length self.old.revisions.items)) × (IfSome newest.slot (λ s. s < length self.old.contents.items)) }
+        requires room { Fits self.old document (path.now.generation - newest.generation) newest.slot }
+        ensures { Grown self.old document path.now newest self.new }
     {
-        self.strip(at);
-        let slot = self.place_content(slot, content);
-        self.add_missing(document as u8, tags, k, n, slot);
-        self.renew(id, document);
+        if let Some(i) = newest.place {
+            self.revision_mut(i).slot = None;
+        }
+        let content = Content::new(path.mark, path.body);
+        let slot = place_content(&mut self.contents, newest.slot, content);
+        let k = newest.generation;
+        add_missing(&mut self.revisions, document as u8, path, k, slot);
+        self.highest += 1;
+        let entry = Document {
+            id: path.id,
+            last: self.highest,
+        };
+        renew(&mut self.documents, document, entry);
     }
 
-    // Writes a path of good input to the tables.
-    fn write_path(
-        &mut self,
-        id: DocumentId,
-        document: usize,
-        tags: &[u8],
-        n: usize,
-        mark: Mark,
-        body: &[u8],
-    ) -> Result<u32, Fault>
+    // Writes a path to the document at a place.
+    fn write_at(&mut self, document: usize, path: &Path) -> Result<u32, Fault>
         requires sound { Sound self.old }
-        requires path { (0 < n) × (n ≤ 200) × (8 * n ≤ length tags.now) }
-        requires body { length body.now ≤ 96 }
         requires known { document ≤ length self.old.documents.items }
-        ensures { Wrote self.old id document (tag_at tags.now) n (content (mark_number mark) body.now) result self.new }
+        ensures { Wrote self.old document path.now result self.new }
     {
-        let Some(k) = self.newest_held(document as u8, tags, n) else {
-            return Err(Fault::from(Decline::Contradiction));
-        };
-        let at = self.entry_at(document as u8, tags, k);
-        let slot = self.slot_at(at);
-        if k == n {
-            if self.keeps(slot, mark, body) {
+        let newest = self.newest_held(document as u8, path)?;
+        if newest.generation == path.generation {
+            if self.keeps(newest.slot, path) {
                 return Ok(0);
             }
-            return Err(Fault::from(Decline::Contradiction));
+            return Err(Decline::Contradiction.into());
         }
-        if !self.has_room(document, n - k, slot) {
-            return Err(Fault::from(Decline::Full));
+        if !self.has_room(document, path.generation - newest.generation, newest.slot) {
+            return Err(Decline::Full.into());
         }
-        self.extend(id, document, tags, k, n, at, slot, Content::new(mark, body));
+        self.extend(document, path, newest);
         Ok(1)
     }
 
-    // The place of the entry of a path's generation k.
-    fn entry_at(&self, document: u8, tags: &[u8], k: usize) -> Option<usize>
-        requires { (k ≤ 200) × (8 * k ≤ length tags.now) }
-        ensures value { result ≡ place (is_revision document k (tag_at tags.now k)) 0 self.now.revisions.items }
-        ensures within { IfSome result (λ i. i < length self.now.revisions.items) }
-    {
-        let revisions = self.revisions.as_slice();
-        revision_in(revisions, document, k as u8, tag_at(tags, k))
-    }
-
-    // Writes a path of good input.
-    fn write_good(
-        &mut self,
-        id: DocumentId,
-        tags: &[u8],
-        n: usize,
-        mark: Mark,
-        body: &[u8],
-    ) -> Result<u32, Fault>
-        requires sound { Sound self.old }
-        requires id { IsId id.bytes }
-        requires path { (1 ≤ n) × (n ≤ 200) × (length tags.now ≡ 8 * n) }
-        requires body { length body.now ≤ 96 }
+    // Writes a path.
+    fn write(&mut self, path: &Path) -> Result<u32, Fault>
+        requires { Sound self.old }
         ensures sound { Sound self.new }
-        ensures replies { PathReplied self.old (record { doc = unpacked id.bytes; tags = eights n tags.now; content = content (mark_number mark) body.now }) result self.new }
+        ensures replies { PathReplied self.old (path_of path.now) result self.new }
     {
-        let document = self.place_for(id);
-        self.write_path(id, document, tags, n, mark, body)
+        let document = self.place_for(path.id);
+        self.write_at(document, path)
     }
 
     // Writes the path of a revision: the tags of its line, its mark and its body; 1 if that changes something, else 0.
@@ -600,12 +307,7 @@ impl Tables {
         ensures sound { Sound self.new }
         ensures writes { Writes (Function.path_write id.now generation tags.now mark body.now) plain (path (path_given id.now generation tags.now mark body.now)) self.old result self.new }
     {
-        let id = DocumentId::read(id)?;
-        let n = path_length(generation, tags)?;
-        let mark = Mark::try_from(mark)?;
-        if body.len() > 96 {
-            return Err(Fault::from(Decline::Body));
-        }
-        self.write_good(id, tags, n, mark, body)
+        let path = Path::read(id, generation, tags, mark, body)?;
+        self.write(&path)
     }
 }

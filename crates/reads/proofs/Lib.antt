@@ -1,0 +1,11 @@
+pub mod Rows
+pub mod Held
+pub mod LogEntries
+pub mod Bodies
+pub mod Climbing
+pub mod Holders
+pub mod LineReads
+pub mod HeadLists
+pub mod HeadOrder
+pub mod HeadsArranged
+pub mod HeadReads

@@ -1,0 +1,44 @@
+-- What the calls that read the tables promise, in the words of the model.
+use Rattle.std.specs.Prelude.{◌≡◌, ℕ, ◌<◌, ◌≤◌, ◌⊎◌, List, length, get_or, Some, None, Ok, Err, vec_items, Option, Result, slice_index_or}
+use Rattle.decline.specs.declared.Fault.{Fault}
+use Rattle.decline.specs.Faults.{bare}
+use Rattle.revision.specs.Ids.{Id}
+use Rattle.revision.specs.Trees.{absent}
+use Rattle.peer.specs.declared.Row.{Row}
+use Rattle.peer.specs.Peers.{answered}
+use Rattle.peer.specs.Functions.{Function, Answer, Filled}
+use Rattle.entries.specs.declared.Document.{Document}
+use Rattle.entries.specs.declared.HeldRevision.{HeldRevision}
+use Rattle.tables.specs.declared.Tables.{Tables}
+use Rattle.tables.specs.Tables.{documents_of}
+use Rattle.entries.specs.Entries.{slotted}
+use Rattle.tables.specs.Calls.{Refused, Answered}
+
+-- a call that reads the tables: what it answers means an answer of the model
+abbrev pub Reads : {A : Type 0} (f : Function) → (A → Answer f) → Tables → Result A Fault → Type 0
+Reads f mean t (Ok a) = Answered f t (mean a)
+Reads f mean t (Err e) = (n : ℕ) × (e ≡ bare n) × Refused f t n
+
+-- a call that reads into lent memory, which held the bytes before: what is handed out tells of the answer
+abbrev pub ReadsInto : {A : Type 0} (f : Function) → (Answer f → List ℕ) → (A → Answer f → Type 0) → Tables → List ℕ → Result A Fault → List ℕ → Type 0
+ReadsInto f out Tells t before (Ok a) now = (x : Answer f) × Answered f t x × Tells a x × Filled out (answered x) before now
+ReadsInto f out Tells t before (Err e) now = (n : ℕ) × (e ≡ bare n) × Refused f t n × (now ≡ before)
+
+-- Look-ups ------------------------------------------------------------------------------------------------------------
+
+-- the place of a revision's entry, which says what the tree has there; none where the tree has nothing
+abbrev pub Stands : Tables → Id → ℕ → ℕ → Option ℕ → Type 0
+Stands t id g x None = (documents_of t).tree id g x ≡ absent
+Stands t id g x (Some i) = (i < length (vec_items t.revisions)) × ((z : HeldRevision) →
+    (documents_of t).tree id g x ≡ slotted (vec_items t.contents) (get_or (vec_items t.revisions) i z).parent (get_or (vec_items t.revisions) i z).slot)
+
+-- of the first k documents the one with the smallest last change number above n
+abbrev pub NextOf : List Document → ℕ → ℕ → Option Row → Type 0
+NextOf ds k n None = (i : ℕ) (z : Document) → i < k → (get_or ds i z).last ≤ n
+NextOf ds k n (Some row) = (i : ℕ) × (i < k) × ((z : Document) → slice_index_or ds i z ≡ record { id = row.id; last = row.change }) × (n < row.change) ×
+    ((j : ℕ) (z : Document) → j < k → n < (get_or ds j z).last → row.change ≤ (get_or ds j z).last)
+
+-- a row, or that of a document if there is none with a smaller change number
+abbrev pub Earlier : Option Row → Document → Option Row → Type 0
+Earlier None d r = r ≡ Some (record { id = d.id; change = d.last })
+Earlier (Some row) d r = ((row.change ≤ d.last) × (r ≡ Some row)) ⊎ ((d.last < row.change) × (r ≡ Some (record { id = d.id; change = d.last })))
