@@ -2,7 +2,7 @@
 // revisions and their lines, bodies of heads, and log entries. Heads stand in a module of their own.
 #![tactic(auto)]
 
-ghost use Rattle.std.specs.Prelude.{◌≡◌, ◌+◌, ◌-◌, ◌*◌, ◌<◌, ◌≤◌, true, ◌++◌, length, drop, Some, None, Ok};
+ghost use Rattle.std.specs.Prelude.{◌≡◌, ◌+◌, ◌-◌, ◌*◌, ◌<◌, ◌≤◌, true, [], ◌++◌, length, drop, All, Contains, IfNone, IfSome, Some, None, Ok};
 ghost use Rattle.octets.specs.Packed.{unpacked};
 ghost use Rattle.checkpoint.specs.Values.{pair};
 ghost use Rattle.peer.specs.Functions.{Function};
@@ -10,7 +10,7 @@ ghost use Rattle.peer.specs.Replies.{plain, perhaps, row_of, RowHasId, body_byte
 ghost use Rattle.entries.specs.Entries.{tree_at, content_of};
 ghost use Rattle.tables.specs.Sound.{Sound};
 ghost use Rattle.tables.specs.Calls.{Answered};
-ghost use Rattle.reads.specs.Reads.{Reads, Stands, NextOf, Earlier, ReadsInto};
+ghost use Rattle.reads.specs.Reads.{Reads, Stands, changed_after, ReadsInto};
 ghost use Rattle.octets.specs.BigEndian.{in_eights};
 ghost use Rattle.revision.specs.Trees.{held};
 ghost use Rattle.reads.specs.Heads.{HeadSlot, Holder, parent_tag, LineLaid};
@@ -28,32 +28,18 @@ mod heads;
 
 pub use heads::{head_at, head_count};
 
-// Of the documents the one with the smallest last change number above n.
-fn next_in(documents: &[Document], n: u32) -> Option<Row>
-    ensures { NextOf documents.now (length documents.now) n result }
+// Of the documents that have changed after n the one that changed first.
+fn next_in(documents: &[Document], n: u32) -> Option<Document>
+    ensures none { IfNone result (changed_after n documents.now ≡ []) }
+    ensures there { IfSome result (Contains documents.now) }
+    ensures after { IfSome result (λ d. n < d.last) }
+    ensures first { IfSome result (λ d. All (λ e. d.last ≤ e.last) (changed_after n documents.now)) }
 {
-    let mut next: Option<Row> = None;
-    for d in documents {
-        if d.last > n {
-            next = earlier(next, *d);
-        }
-    }
-    next
-}
-
-// A row, or that of a document if it has a smaller change number.
-fn earlier(row: Option<Row>, d: Document) -> Option<Row>
-    ensures { Earlier row d result }
-{
-    if let Some(row) = row {
-        if row.change <= d.last {
-            return Some(row);
-        }
-    }
-    Some(Row {
-        id: d.id,
-        change: d.last,
-    })
+    documents
+        .iter()
+        .copied()
+        .filter(|d| d.last > n)
+        .min_by_key(|d| d.last)
 }
 
 // The place of a revision's entry.
@@ -78,7 +64,11 @@ pub fn row_after(tables: &Tables, n: u32) -> Option<Row>
     ensures named { RowHasId (Ok result) }
     ensures row { Answered (Function.row_after n) tables.now (perhaps row_of result) }
 {
-    next_in(tables.documents.as_slice(), n)
+    let next = next_in(tables.documents.as_slice(), n)?;
+    Some(Row {
+        id: next.id,
+        change: next.last,
+    })
 }
 
 // Whether a revision is held.
