@@ -1,6 +1,5 @@
--- Looking along a list: the turns of a loop, and what the place found says.
-use Rattle.std.proofs.Common.{◌≡◌, ℕ, suc, ◌+◌, ◌<◌, ◌≤◌, Bool, true, false, cond, List, [], ◌∷◌, length, get_or, drop, Some, None, Option, sym, refl, ap, ◌∙◌, ⊎_elim, arith}
-use Rattle.std.proofs.lemmas.List.{at_drop_more, at_drop_all}
+-- Looking along a list: what the place found says.
+use Rattle.std.proofs.Common.{◌≡◌, ℕ, suc, ◌+◌, ◌<◌, Bool, true, false, cond, List, [], ◌∷◌, length, get_or, Some, None, sym, refl, ap, ◌∙◌, ⊎_elim, arith}
 use Rattle.std.proofs.lemmas.Bool.{cases_Bool}
 use Rattle.entries.specs.Searches.{first, place}
 
@@ -9,17 +8,6 @@ not_both b p q = let z : true ≡ false = sym p ∙ q in let y : ◌≡◌ {A = 
 
 pub false_if : (b : Bool) → (b ≡ true → ⊥) → b ≡ false
 false_if b h = ⊎_elim (λ (e : b ≡ true). absurd (h e)) (λ (e : b ≡ false). e) (cases_Bool b)
-
-module _ {X : Type 0} (p : X → Bool) (xs : List X) (i : ℕ) where
-  -- a loop that looks for a place: the turn that finds, the turn that does not, the end
-  pub place_hit : (d : X) (o : Option ℕ) → i < length xs → true ≡ p (get_or xs i d) → place p i (drop i xs) ≡ o → Some i ≡ o
-  place_hit d o h e inv = ap (λ b. cond b (Some i) (place p (i + 1) (drop (i + 1) xs))) e ∙ (sym (at_drop_more (place p i) xs i d h) ∙ inv)
-
-  pub place_miss : (d : X) (o : Option ℕ) → i < length xs → false ≡ p (get_or xs i d) → place p i (drop i xs) ≡ o → place p (i + 1) (drop (i + 1) xs) ≡ o
-  place_miss d o h e inv = ap (λ b. cond b (Some i) (place p (i + 1) (drop (i + 1) xs))) e ∙ (sym (at_drop_more (place p i) xs i d h) ∙ inv)
-
-  pub place_end : (o : Option ℕ) → length xs ≤ i → place p i (drop i xs) ≡ o → None ≡ o
-  place_end o h inv = sym (at_drop_all (place p i) xs i h) ∙ inv
 
 -- what stands at the place that was found
 pub record Found {X : Type 0} (p : X → Bool) (xs : List X) (d : X) (j : ℕ) : Type 0 where

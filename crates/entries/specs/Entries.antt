@@ -24,6 +24,10 @@ use Rattle.peer.specs.Records.{Documents}
 abbrev pub content_of : Content → Trees.Content
 content_of c = record { mark = mark_number c.mark; body = take c.length c.body }
 
+-- a mark and a body
+abbrev pub content : ℕ → List ℕ → Trees.Content
+content m b = record { mark = m; body = b }
+
 -- a content that says nothing, for a slot that is not there
 abbrev pub no_content : Content
 no_content = record { mark = Live; length = 0; body = [] }

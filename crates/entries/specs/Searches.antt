@@ -1,15 +1,14 @@
 -- Looking along a list.
-use Rattle.std.specs.Prelude.{◌≡◌, ℕ, ◌+◌, ◌<◌, Bool, true, cond, List, [], ◌∷◌, length, Some, None, Option, slice_index_or}
+use Rattle.std.specs.Prelude.{◌≡◌, ℕ, ◌+◌, ◌<◌, Bool, true, cond, List, [], ◌∷◌, length, Option, find, slice_index_or}
+use Rattle.std.specs.List.{position_from}
 
 -- the first element that passes a test
 abbrev pub first : {X : Type 0} → (X → Bool) → List X → Option X
-first p [] = None
-first p (x ∷ xs) = cond (p x) (Some x) (first p xs)
+first p xs = find p xs
 
 -- the place of the first element that passes a test, counted from k
 abbrev pub place : {X : Type 0} → (X → Bool) → ℕ → List X → Option ℕ
-place p k [] = None
-place p k (x ∷ xs) = cond (p x) (Some k) (place p (k + 1) xs)
+place p k xs = position_from p k xs
 
 -- at most one element passes a test
 abbrev pub Once : {X : Type 0} → (X → Bool) → List X → Type 0

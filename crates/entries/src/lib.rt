@@ -2,17 +2,18 @@
 // by key.
 #![tactic(auto)]
 
-ghost use Rattle.std.specs.Prelude.{◌≡◌, ◌<◌, Bool, length, IfSome};
+ghost use Rattle.std.specs.Prelude.{◌≡◌, ◌<◌, ◌≤◌, Bool, length, IfSome, Decides};
 ghost use Rattle.octets.specs.Packed.{unpacked};
 ghost use Rattle.order.specs.Lists.{same};
+ghost use Rattle.revision.specs.Values.{mark_number};
 ghost use Rattle.keys.specs.Values.{key_of};
 ghost use Rattle.entries.specs.Searches.{place};
-ghost use Rattle.entries.specs.Entries.{is_revision, is_document, is_log};
+ghost use Rattle.entries.specs.Entries.{content_of, content, is_revision, is_document, is_log};
 
 use checkpoint::Log;
 use keys::Key;
 use octets::Packed;
-use revision::{DocumentId, Mark};
+use revision::{DocumentId, Mark, Revision};
 
 // A document with its last change number.
 #[derive(Clone, Copy)]
@@ -22,7 +23,8 @@ pub struct Document {
 }
 
 // A revision that is held: its tag and its parent's, its document's place, and, if it is a head, the slot of its
-// content. The wide fields stand first, so that an entry takes 24 bytes.
+// content. The wide fields stand first.
+// Kept: an entry takes 24 bytes of fixed memory; with a `Revision` inside it would take 32.
 #[derive(Clone, Copy)]
 pub struct HeldRevision {
     pub tag: u64,
@@ -32,12 +34,58 @@ pub struct HeldRevision {
     pub slot: Option<u8>,
 }
 
+impl HeldRevision {
+    // The revision that is held.
+    pub fn revision(&self) -> Revision
+        ensures { result ≡ record { generation = self.now.generation; tag = self.now.tag } }
+    {
+        Revision {
+            generation: self.generation,
+            tag: self.tag,
+        }
+    }
+}
+
 // What a head keeps: its mark, and as many bytes of the body as the length says.
+// Kept: in fixed memory a content takes 98 bytes; the kit's `arrayvec` would add 7 to each.
 #[derive(Clone, Copy)]
 pub struct Content {
     pub mark: Mark,
     pub length: u8,
     pub body: [u8; 96],
+}
+
+impl Content {
+    // A content of a mark and a body.
+    pub fn new(mark: Mark, body: &[u8]) -> Content
+        requires { length body.now ≤ 96 }
+        ensures is { content_of result ≡ content (mark_number mark) body.now }
+        ensures short { result.length ≤ 96 }
+    {
+        let length = body.len();
+        let mut all = [0; 96];
+        all[..length].copy_from_slice(body);
+        Content {
+            mark,
+            length: length as u8,
+            body: all,
+        }
+    }
+
+    // The body that is kept.
+    pub fn bytes(&self) -> &[u8]
+        ensures body { result.now ≡ (content_of self.now).body }
+        ensures short { length result.now ≤ 96 }
+    {
+        &self.body[..(self.length as usize).min(96)]
+    }
+
+    // Whether this mark and body are kept.
+    pub fn keeps(&self, mark: Mark, body: &[u8]) -> bool
+        ensures { Decides result (content_of self.now ≡ content (mark_number mark) body.now) }
+    {
+        self.mark == mark && self.bytes() == body
+    }
 }
 
 // The log of a key.
@@ -51,8 +99,7 @@ pub struct KeyedLog {
 #[derive(Clone, Copy)]
 pub struct RevisionOf {
     pub document: u8,
-    pub generation: u8,
-    pub tag: u64,
+    pub revision: Revision,
 }
 
 // What an entry is found by.
@@ -66,14 +113,13 @@ pub trait Finds<E> {
 }
 
 // Whether two packed byte strings are the same.
+// Kept: the numbers of equal strings may differ behind their bytes, so a derived `==` of them would answer no.
 fn same_bytes(a: Packed, b: Packed) -> bool
     ensures { result ≡ same (unpacked a) (unpacked b) }
 {
     let ours = a.bytes();
     let theirs = b.bytes();
-    let n = (a.length as usize).min(16);
-    let m = (b.length as usize).min(16);
-    &ours[0..n] == &theirs[0..m]
+    ours[..(a.length as usize).min(16)] == theirs[..(b.length as usize).min(16)]
 }
 
 // A document is found by its id.
@@ -87,12 +133,10 @@ impl Finds<Document> for DocumentId {
 
 // A revision is found by its document's place, its generation and its tag.
 impl Finds<HeldRevision> for RevisionOf {
-    ghost finds = { λ k. is_revision k.document k.generation k.tag };
+    ghost finds = { λ k. is_revision k.document k.revision.generation k.revision.tag };
 
     fn is_of(&self, entry: &HeldRevision) -> bool {
-        entry.document == self.document
-            && entry.generation == self.generation
-            && entry.tag == self.tag
+        entry.document == self.document && entry.revision() == self.revision
     }
 }
 
@@ -112,10 +156,5 @@ pub fn place_in<E, K: Finds<E>>(entries: &[E], key: &K) -> Option<usize>
     ensures value { result ≡ place (K.finds key.now) 0 entries.now }
     ensures within { IfSome result (λ i. i < length entries.now) }
 {
-    for (i, e) in entries.iter().enumerate() {
-        if key.is_of(e) {
-            return Some(i);
-        }
-    }
-    None
+    entries.iter().position(|e| key.is_of(e))
 }

@@ -1,7 +1,6 @@
 pub mod Inputs
 pub mod Standings
 pub mod NewRows
-pub mod Contents
 pub mod Slots
 pub mod PathPlaces
 pub mod PathRule

@@ -15,7 +15,7 @@ use Rattle.peer.specs.Functions.{path_write, input, path_given}
 use Rattle.peer.specs.Replies.{plain}
 use Rattle.peer.proofs.Callers.{passed}
 use Rattle.tables.specs.declared.Tables.{Tables}
-use Rattle.tables.specs.Paths.{content}
+use Rattle.entries.specs.Entries.{content}
 use Rattle.tables.specs.Calls.{PathLength, PathReplied, Writes}
 
 mark_small : (m : Mark) → mark_number m ≤ 1

@@ -72,10 +72,6 @@ rows d tag n s k m = map (row d tag n s) (range_with_len (k + 1) m)
 abbrev pub renewed : List Document → ℕ → Document → List Document
 renewed ds i d = cond (nat_lt i (length ds)) (slice_set ds i d) (ds ++ (d ∷ []))
 
--- a mark and a body
-abbrev pub content : ℕ → List ℕ → Trees.Content
-content m b = record { mark = m; body = b }
-
 -- a slot keeps a content; a revision without one keeps nothing else
 abbrev pub Keeps : List Content → Option ℕ → Trees.Content → Type 0
 Keeps cs None c = Unit

@@ -13,9 +13,9 @@ ghost use Rattle.peer.specs.Functions.{Function, path_given};
 ghost use Rattle.peer.specs.Replies.{plain};
 ghost use Rattle.entries.specs.Searches.{place};
 ghost use Rattle.tables.specs.Tables.{record_of};
-ghost use Rattle.entries.specs.Entries.{is_document, content_of, slot_at};
+ghost use Rattle.entries.specs.Entries.{is_document, content_of, content, slot_at};
 ghost use Rattle.tables.specs.Sound.{Sound, Reserved};
-ghost use Rattle.tables.specs.Paths.{tag_at, standing, Clash, stripped, slot_for, placed, rows, renewed, content, Keeps, Fits, Extended, Wrote, place_for, tree_in, entry_of, Inside, NewestAt};
+ghost use Rattle.tables.specs.Paths.{tag_at, standing, Clash, stripped, slot_for, placed, rows, renewed, Keeps, Fits, Extended, Wrote, place_for, tree_in, entry_of, Inside, NewestAt};
 ghost use Rattle.std.specs.Borrow.{sem, follows};
 ghost use Rattle.std.specs.Vec.{with_item};
 ghost use Rattle.tables.specs.contracts.Tables.{the_row};
@@ -24,8 +24,8 @@ ghost use Rattle.tables.specs.Calls.{PathLength, PathReplied, Writes};
 
 use decline::{Decline, Fault};
 use entries::{Content, Document, HeldRevision, KeyedLog, RevisionOf, place_in};
-use octets::{lay, number_of};
-use revision::{DocumentId, Mark};
+use octets::number_of;
+use revision::{DocumentId, Mark, Revision};
 use std::alloc::{AllocError, Global};
 
 // How many documents, revisions, heads and logs there is room for.
@@ -71,29 +71,6 @@ struct NewestHeld {
 }
 
 mod logs;
-
-// A content of a mark and a body.
-fn content_with(mark: Mark, body: &[u8]) -> Content
-    requires { length body.now ≤ 96 }
-    ensures is { content_of result ≡ content (mark_number mark) body.now }
-    ensures short { result.length ≤ 96 }
-{
-    let mut all = [0u8; 96];
-    lay(&mut all, body);
-    Content {
-        mark,
-        length: body.len() as u8,
-        body: all,
-    }
-}
-
-// Whether a content keeps this mark and body.
-fn is_content(kept: &Content, mark: Mark, body: &[u8]) -> bool
-    ensures { Decides result (content_of kept.now ≡ content (mark_number mark) body.now) }
-{
-    let n = (kept.length as usize).min(96);
-    kept.mark.number() == mark.number() && &kept.body[0..n] == body
-}
 
 // The tag of generation g of a path; 0 where g is 0.
 fn tag_at(tags: &[u8], g: usize) -> u64
@@ -171,8 +148,10 @@ impl Tables {
         let revisions = self.revisions.as_slice();
         let revision = RevisionOf {
             document,
-            generation: g as u8,
-            tag: tag_at(tags, g),
+            revision: Revision {
+                generation: g as u8,
+                tag: tag_at(tags, g),
+            },
         };
         match place_in(revisions, &revision) {
             None => Known {
@@ -351,10 +330,7 @@ impl Tables {
         ensures { Decides result (Keeps self.now.contents.items slot (content (mark_number mark) body.now)) }
     {
         let contents = self.contents.as_slice();
-        match slot {
-            None => true,
-            Some(s) => is_content(&contents[s as usize], mark, body),
-        }
+        slot.is_none_or(|s| contents[s as usize].keeps(mark, body))
     }
 
     // Whether there is room for a document at a place, so many revisions, a head and a change number.
@@ -439,7 +415,7 @@ impl Tables {
         if !self.has_room(document, n - k, slot) {
             return Err(Fault::from(Decline::Full));
         }
-        let content = content_with(mark, body);
+        let content = Content::new(mark, body);
         self.extend(id, document, tags, k, n, newest.place, slot, content);
         Ok(1)
     }

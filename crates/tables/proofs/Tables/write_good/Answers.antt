@@ -3,7 +3,8 @@ use Rattle.octets.specs.Packed.{unpacked}
 use Rattle.octets.specs.BigEndian.{eights}
 use Rattle.revision.specs.Paths.{Path}
 use Rattle.revision.specs.Values.{mark_number}
-use Rattle.tables.specs.Paths.{tag_at, content, Wrote}
+use Rattle.tables.specs.Paths.{tag_at, Wrote}
+use Rattle.entries.specs.Entries.{content}
 use Rattle.tables.proofs.PathTags.{path_tags, tag_good}
 use Rattle.tables.proofs.PathWritten.{path_reply}
 use Rattle.tables.proofs.Tables.write_good.Goals as goal
