@@ -1,5 +1,5 @@
 -- What the calls that read the tables promise, in the words of the model.
-use Rattle.std.specs.Prelude.{◌≡◌, ℕ, ◌<◌, List, length, get_or, filter, Some, None, Ok, Err, vec_items, Option, Result, nat_lt}
+use Rattle.std.specs.Prelude.{◌≡◌, ℕ, List, filter, Some, None, Ok, Err, vec_items, Option, Result, nat_lt}
 use Rattle.decline.specs.declared.Fault.{Fault}
 use Rattle.decline.specs.Faults.{bare}
 use Rattle.revision.specs.Ids.{Id}
@@ -10,7 +10,8 @@ use Rattle.entries.specs.declared.Document.{Document}
 use Rattle.entries.specs.declared.HeldRevision.{HeldRevision}
 use Rattle.tables.specs.declared.Tables.{Tables}
 use Rattle.tables.specs.Tables.{documents_of}
-use Rattle.entries.specs.Entries.{slotted}
+use Rattle.entries.specs.Searches.{first}
+use Rattle.entries.specs.Entries.{is_revision, tree_at}
 use Rattle.tables.specs.Calls.{Refused, Answered}
 
 -- a call that reads the tables: what it answers means an answer of the model
@@ -25,11 +26,15 @@ ReadsInto f out Tells t before (Err e) now = (n : ℕ) × (e ≡ bare n) × Refu
 
 -- Look-ups ------------------------------------------------------------------------------------------------------------
 
--- the place of a revision's entry, which says what the tree has there; none where the tree has nothing
-abbrev pub Stands : Tables → Id → ℕ → ℕ → Option ℕ → Type 0
-Stands t id g x None = (documents_of t).tree id g x ≡ absent
-Stands t id g x (Some i) = (i < length (vec_items t.revisions)) × ((z : HeldRevision) →
-    (documents_of t).tree id g x ≡ slotted (vec_items t.contents) (get_or (vec_items t.revisions) i z).parent (get_or (vec_items t.revisions) i z).slot)
+-- an entry is that of its revision
+abbrev pub IsEntry : Tables → HeldRevision → Type 0
+IsEntry t r = first (is_revision r.document r.generation r.tag) (vec_items t.revisions) ≡ Some r
+
+-- the entry of a revision, whose tree is that of the entry's document; none where the tree has nothing
+abbrev pub HasEntry : Tables → Id → ℕ → ℕ → Option HeldRevision → Type 0
+HasEntry t id g x None = (documents_of t).tree id g x ≡ absent
+HasEntry t id g x (Some r) =
+    ((documents_of t).tree id ≡ tree_at (vec_items t.revisions) (vec_items t.contents) r.document) × IsEntry t r × (r.generation ≡ g) × (r.tag ≡ x)
 
 -- the documents that have changed after n
 abbrev pub changed_after : ℕ → List Document → List Document
