@@ -39,16 +39,16 @@ slot_given t bs g x d r o i m s =
     subst (λ (q : Revision). HeadSlot t bs q.generation q.tag o) m.1 a
 
 -- a body that is read
-pub body_read : (t : Tables) (bs : List ℕ) (g x s : ℕ) (before now : List ℕ) (d : DocumentId) (r : Revision) (cs : List Content) (z : Content) (b : Body) →
-    Sound t → IdRead bs (Ok d) → RevisionMade g x (Ok r) → 96 ≤ length before → HeadSlot t (unpacked d.bytes) r.generation r.tag (Some s) → cs ≡ vec_items t.contents →
-    TellsBody b (content_of (get_or cs s z)) → now ≡ (content_of (get_or cs s z)).body ++ drop (length (content_of (get_or cs s z)).body) before →
+pub body_read : (t : Tables) (bs : List ℕ) (g x s : ℕ) (before now : List ℕ) (d : DocumentId) (r : Revision) (c : Content) (b : Body) →
+    Sound t → IdRead bs (Ok d) → RevisionMade g x (Ok r) → 96 ≤ length before → HeadSlot t (unpacked d.bytes) r.generation r.tag (Some s) → c ≡ get_or (vec_items t.contents) s c →
+    TellsBody b (content_of c) → now ≡ (content_of c).body ++ drop (length (content_of c).body) before →
     ReadsInto (Function.body_of bs g x (length before)) body_bytes TellsBody t before (Ok b) now
-body_read t bs g x s before now d r cs z b snd i m room h ce tells e =
+body_read t bs g x s before now d r c b snd i m room h ce tells e =
     let h = slot_given t bs g x d r (Some s) i m h in
-    let q : get_or cs s z ≡ get_or (vec_items t.contents) s no_content = ap (λ (l : List Content). get_or l s z) ce ∙ get_or_default (vec_items t.contents) s z no_content h.0 in
-    let k : content_at ((documents_of t).tree bs g x) ≡ Some (content_of (get_or cs s z)) = h.1 ∙ sym (ap (λ (c : Content). Some (content_of c)) q) in
-    let good : good_content (content_of (get_or cs s z)) ≡ true = ap (λ (c : Content). good_content (content_of c)) q ∙ good_kept (get_or (vec_items t.contents) s no_content) (snd.revisions.bodies s no_content h.0) in (
-      content_of (get_or cs s z),
+    let q : c ≡ get_or (vec_items t.contents) s no_content = ce ∙ get_or_default (vec_items t.contents) s c no_content h.0 in
+    let k : content_at ((documents_of t).tree bs g x) ≡ Some (content_of c) = h.1 ∙ sym (ap (λ (v : Content). Some (content_of v)) q) in
+    let good : good_content (content_of c) ≡ true = ap (λ (v : Content). good_content (content_of v)) q ∙ good_kept (get_or (vec_items t.contents) s no_content) (snd.revisions.bodies s no_content h.0) in (
+      content_of c,
       (revision_given bs g x d r ((leb 96 (length before), 18) ∷ []) i m ∙ test_passed (leb 96 (length before)) 18 [] (le-leb 96 (length before) room), sym (ap found k), (k, good)),
       tells,
       e,

@@ -3,7 +3,6 @@ pub mod Held
 pub mod LogEntries
 pub mod Bodies
 pub mod Climbing
-pub mod Holders
 pub mod LineReads
 pub mod HeadLists
 pub mod HeadOrder

@@ -1,17 +1,17 @@
 -- What the calls that read the tables promise, in the words of the model.
-use Rattle.std.specs.Prelude.{◌≡◌, ℕ, ◌<◌, ◌≤◌, ◌⊎◌, List, length, get_or, Some, None, Ok, Err, vec_items, Option, Result, slice_index_or}
+use Rattle.std.specs.Prelude.{◌≡◌, ℕ, List, filter, Some, None, Ok, Err, vec_items, Option, Result, nat_lt}
 use Rattle.decline.specs.declared.Fault.{Fault}
 use Rattle.decline.specs.Faults.{bare}
 use Rattle.revision.specs.Ids.{Id}
 use Rattle.revision.specs.Trees.{absent}
-use Rattle.peer.specs.declared.Row.{Row}
 use Rattle.peer.specs.Peers.{answered}
 use Rattle.peer.specs.Functions.{Function, Answer, Filled}
 use Rattle.entries.specs.declared.Document.{Document}
 use Rattle.entries.specs.declared.HeldRevision.{HeldRevision}
 use Rattle.tables.specs.declared.Tables.{Tables}
 use Rattle.tables.specs.Tables.{documents_of}
-use Rattle.entries.specs.Entries.{slotted}
+use Rattle.entries.specs.Searches.{first}
+use Rattle.entries.specs.Entries.{is_revision, tree_at}
 use Rattle.tables.specs.Calls.{Refused, Answered}
 
 -- a call that reads the tables: what it answers means an answer of the model
@@ -26,19 +26,16 @@ ReadsInto f out Tells t before (Err e) now = (n : ℕ) × (e ≡ bare n) × Refu
 
 -- Look-ups ------------------------------------------------------------------------------------------------------------
 
--- the place of a revision's entry, which says what the tree has there; none where the tree has nothing
-abbrev pub Stands : Tables → Id → ℕ → ℕ → Option ℕ → Type 0
-Stands t id g x None = (documents_of t).tree id g x ≡ absent
-Stands t id g x (Some i) = (i < length (vec_items t.revisions)) × ((z : HeldRevision) →
-    (documents_of t).tree id g x ≡ slotted (vec_items t.contents) (get_or (vec_items t.revisions) i z).parent (get_or (vec_items t.revisions) i z).slot)
+-- an entry is that of its revision
+abbrev pub IsEntry : Tables → HeldRevision → Type 0
+IsEntry t r = first (is_revision r.document r.generation r.tag) (vec_items t.revisions) ≡ Some r
 
--- of the first k documents the one with the smallest last change number above n
-abbrev pub NextOf : List Document → ℕ → ℕ → Option Row → Type 0
-NextOf ds k n None = (i : ℕ) (z : Document) → i < k → (get_or ds i z).last ≤ n
-NextOf ds k n (Some row) = (i : ℕ) × (i < k) × ((z : Document) → slice_index_or ds i z ≡ record { id = row.id; last = row.change }) × (n < row.change) ×
-    ((j : ℕ) (z : Document) → j < k → n < (get_or ds j z).last → row.change ≤ (get_or ds j z).last)
+-- the entry of a revision, whose tree is that of the entry's document; none where the tree has nothing
+abbrev pub HasEntry : Tables → Id → ℕ → ℕ → Option HeldRevision → Type 0
+HasEntry t id g x None = (documents_of t).tree id g x ≡ absent
+HasEntry t id g x (Some r) =
+    ((documents_of t).tree id ≡ tree_at (vec_items t.revisions) (vec_items t.contents) r.document) × IsEntry t r × (r.generation ≡ g) × (r.tag ≡ x)
 
--- a row, or that of a document if there is none with a smaller change number
-abbrev pub Earlier : Option Row → Document → Option Row → Type 0
-Earlier None d r = r ≡ Some (record { id = d.id; change = d.last })
-Earlier (Some row) d r = ((row.change ≤ d.last) × (r ≡ Some row)) ⊎ ((d.last < row.change) × (r ≡ Some (record { id = d.id; change = d.last })))
+-- the documents that have changed after n
+abbrev pub changed_after : ℕ → List Document → List Document
+changed_after n ds = filter (λ d. nat_lt n d.last) ds

@@ -1,20 +1,44 @@
-use Rattle.std.proofs.Common.{◌+◌, ◌-◌, ◌*◌, ◌<◌, ◌≤◌, length, vec_items, arith, rules}
-use Rattle.octets.proofs.Eights.{eight_laid}
-use Rattle.entries.specs.Entries.{tree_at}
-use Rattle.reads.proofs.Climbing.{held_good, climb_more, climb_end}
+use Rattle.std.proofs.Common.{◌-◌, ◌*◌, ◌<◌, ◌≤◌, Option, length, sym, subst, arith, rules}
+use Rattle.octets.proofs.Eights.{eight_copied}
+use Rattle.octets.proofs.Widths.{eight_bytes}
+use Rattle.entries.specs.declared.HeldRevision.{HeldRevision}
+use Rattle.reads.proofs.Held.{entry_generation}
+use Rattle.reads.proofs.Climbing.{height, walk_start, walk_room, walk_more, walk_end, parent_lower}
 use Rattle.reads.proofs.lay_line.Goals as goal
 
-pub loop-i-preserved : goal.loop-i-preserved
-loop-i-preserved c =
-    let s = c.requires.sound.revisions in
-    let l : c.loop-i.i < c.args.generation = omega arith in
-    let room : 8 * ((c.args.generation - c.loop-i.i) - 1) + 8 ≤ length c.loop-i.out = omega (arith, c.loop-i.invariant.long, c.requires.room) in
-    climb_more (tree_at (vec_items c.args.tables.now.revisions) (vec_items c.args.tables.now.contents) c.args.document)
-    (λ g x h. held_good _ _ _ c.args.document g x s h) (s.closed c.args.document) (λ x p e. s.roots c.args.document x p e)
-    c.args.generation c.args.tag c.args.out.now c.loop-i.i _ _ _ _ l c.loop-i.invariant c.parent_tag-tag.ensures c.requires.room
-    (eight_laid c.lay_eight.result _ _ _ _ c.lay_eight.ensures.laid room) c.lay_eight.ensures.long
+pub loop-next-init : goal.loop-next-init
+loop-next-init c = walk_start c.args.tables.now c.requires.sound c.args.out.now c.args.entry c.requires.held
+
+pub overflow_sub-place : goal.overflow_sub-place
+overflow_sub-place c =
+    let w = rw c.in-Some.is at c.loop-next.invariant in
+    entry_generation c.args.tables.now c.in-Some.entry c.requires.sound w.entry.1
+
+pub slice_bounds-copy_from_slice-end : goal.slice_bounds-copy_from_slice-end
+slice_bounds-copy_from_slice-end c =
+    let w = rw c.in-Some.is at c.loop-next.invariant in
+    let low : 0 < c.in-Some.entry.generation = entry_generation c.args.tables.now c.in-Some.entry c.requires.sound w.entry.1 in
+    let room : 8 * c.in-Some.entry.generation ≤ length c.loop-next.out = walk_room c.args.tables.now c.requires.sound _ _ _ _ c.in-Some.entry c.loop-next.out w c.requires.room in
+    omega arith
+
+pub parent_of-next-requires : goal.parent_of-next-requires
+parent_of-next-requires c =
+    let w = rw c.in-Some.is at c.loop-next.invariant in
+    entry_generation c.args.tables.now c.in-Some.entry c.requires.sound w.entry.1
+
+pub loop-next-smaller : goal.loop-next-smaller
+loop-next-smaller c =
+    let w = rw c.in-Some.is at c.loop-next.invariant in
+    subst (λ (o : Option HeldRevision). height c.parent_of-next.result < height o) (sym c.in-Some.is)
+    (parent_lower c.args.tables.now c.requires.sound c.in-Some.entry c.parent_of-next.result w.entry.1 c.parent_of-next.ensures)
+
+pub loop-next-preserved : goal.loop-next-preserved
+loop-next-preserved c =
+    let w = rw c.in-Some.is at c.loop-next.invariant in
+    walk_more c.args.tables.now c.requires.sound _ _ _ _ c.in-Some.entry c.parent_of-next.result c.loop-next.out _ w c.parent_of-next.ensures c.requires.room
+    (eight_copied c.loop-next.out c.copy_from_slice.new.self _ (c.in-Some.entry.generation - 1) c.in-Some.entry.tag (search rules) (sym (eight_bytes c.in-Some.entry.tag))) (search rules)
 
 pub returns : goal.returns
 returns c =
-    let l : c.args.generation ≤ c.loop-i.i = search rules in
-    climb_end _ c.args.generation c.args.tag c.args.out.now c.loop-i.i _ _ c.requires.low l c.loop-i.invariant
+    let w = rw c.in_default.is at c.loop-next.invariant in
+    walk_end c.args.tables.now c.requires.sound _ _ _ _ c.loop-next.out (entry_generation c.args.tables.now c.args.entry c.requires.sound c.requires.held) w

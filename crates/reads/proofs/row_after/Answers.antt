@@ -1,17 +1,20 @@
-use Rattle.std.proofs.Common.{List, length, vec_items, refl, subst}
-use Rattle.entries.specs.declared.Document.{Document}
-use Rattle.reads.specs.Reads.{NextOf}
-use Rattle.reads.proofs.Rows.{row_from, row_id, row_good}
+use Rattle.std.proofs.Common.{refl, vec_items}
+use Rattle.reads.proofs.Rows.{no_row, next_row, next_id}
 use Rattle.reads.proofs.row_after.Goals as goal
+
+pub returns-in_err-next : goal.returns-in_err-next
+returns-in_err-next c =
+    let t = c.args.tables.now in
+    let none = rw c.as_slice.ensures.value at c.in_err-next.ensures.none in
+    let row = no_row (vec_items t.documents) (vec_items t.revisions) (vec_items t.contents) t.highest c.args.n c.requires.documents none in
+    rw c.from_residual.ensures record { named = tt; row = (refl, refl, (row, refl)) }
 
 pub returns : goal.returns
 returns c =
     let t = c.args.tables.now in
-    let w = subst (λ (ds : List Document). NextOf ds (length ds) c.args.n c.next_in.result) c.as_slice.ensures.value c.next_in.ensures in
-    let ds = vec_items t.documents in
-    let rs = vec_items t.revisions in
-    let cs = vec_items t.contents in
-    let s = c.requires.documents in record {
-      named = row_id ds rs cs t.highest c.args.n s c.next_in.result w;
-      row = (refl, refl, (row_from ds rs cs t.highest c.args.n s c.next_in.result w, row_good ds rs cs t.highest c.args.n s c.next_in.result w));
-    }
+    let d = c.in_ok-next.next in
+    let there = rw c.as_slice.ensures.value at c.in_ok-next.ensures.there in
+    let first = rw c.as_slice.ensures.value at c.in_ok-next.ensures.first in
+    let named = next_id (vec_items t.documents) (vec_items t.revisions) (vec_items t.contents) t.highest c.args.n c.requires.documents d there in
+    let row = next_row (vec_items t.documents) (vec_items t.revisions) (vec_items t.contents) t.highest c.args.n c.requires.documents d there c.in_ok-next.ensures.after first in
+    record { named = named; row = (refl, refl, (row, named.good)) }
