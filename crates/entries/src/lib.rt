@@ -117,9 +117,7 @@ pub trait Finds<E> {
 fn same_bytes(a: Packed, b: Packed) -> bool
     ensures { result ≡ same (unpacked a) (unpacked b) }
 {
-    let ours = a.bytes();
-    let theirs = b.bytes();
-    ours[..(a.length as usize).min(16)] == theirs[..(b.length as usize).min(16)]
+    a.unpacked().as_slice() == b.unpacked().as_slice()
 }
 
 // A document is found by its id.

@@ -106,13 +106,18 @@ mod tests {
         key
     }
 
+    // A log entry.
+    fn entry(stamp: u64, position: u32) -> Entry {
+        Entry { stamp, position }
+    }
+
     // Writes a log of each source from 1 up to the end.
     fn write_logs<P: Peer>(rt: &impl Abort, peer: &mut P, end: u8) -> Result<(), Fail>
         requires { P.Peer.kept peer.old }
         ensures { P.Peer.kept peer.new }
     {
         for source in 1..end {
-            assert_eq!(rt; peer.log_write(&key(source), 5, 0), Ok(()));
+            assert_eq!(rt; peer.log_write(&key(source), entry(5, 0)), Ok(()));
         }
         Ok(())
     }
@@ -196,14 +201,10 @@ mod tests {
         let mut peer = empty(rt.alloc())?;
         write_logs(&rt, &mut peer, 9)?;
         let full = Fault::from(Decline::Full);
-        assert_eq!(rt; peer.log_write(&key(9), 5, 0), Err(full));
-        assert_eq!(rt; peer.log_write(&key(8), 6, 7), Ok(()));
-        assert_eq!(rt; peer.log_write(&key(1), 5, 0), Ok(()));
-        let newest = Entry {
-            stamp: 6,
-            position: 7,
-        };
-        assert_eq!(rt; peer.log_entry(&key(8), 0), Ok(Some(newest)));
+        assert_eq!(rt; peer.log_write(&key(9), entry(5, 0)), Err(full));
+        assert_eq!(rt; peer.log_write(&key(8), entry(6, 7)), Ok(()));
+        assert_eq!(rt; peer.log_write(&key(1), entry(5, 0)), Ok(()));
+        assert_eq!(rt; peer.log_entry(&key(8), 0), Ok(Some(entry(6, 7))));
         assert_eq!(rt; peer.log_entry(&key(9), 0), Ok(None));
         Ok(())
     }
@@ -269,11 +270,7 @@ mod tests {
         assert_eq!(rt; peer.wake(0), Err(Fault::from(Decline::Stamp)));
         assert_eq!(rt; peer.start_stamp(), Ok(7));
         assert_eq!(rt; peer.is_held(b"A", ones(2)), Ok(true));
-        let entry = Entry {
-            stamp: 5,
-            position: 0,
-        };
-        assert_eq!(rt; peer.log_entry(&key(1), 0), Ok(Some(entry)));
+        assert_eq!(rt; peer.log_entry(&key(1), 0), Ok(Some(entry(5, 0))));
         Ok(())
     }
 

@@ -91,8 +91,8 @@ impl Peer for Memory {
         reads::log_entry(&self.tables, key, i)
     }
 
-    fn log_write(&mut self, key: &[u8], stamp: u64, position: u32) -> Result<(), Fault> {
-        self.tables.log_write(key, stamp, position)
+    fn log_write(&mut self, key: &[u8], entry: Entry) -> Result<(), Fault> {
+        self.tables.log_write(key, entry)
     }
 
     fn commit(&mut self) -> Result<(), Fault> {

@@ -45,7 +45,7 @@ impl<'a> Path<'a> {
         if generation == 0 || generation > 200 || tags.len() != 8 * generation as usize {
             return Err(Decline::Revision.into());
         }
-        let mark = Mark::read(mark)?;
+        let mark = Mark::try_from(mark)?;
         if body.len() > BODY {
             return Err(Decline::Body.into());
         }
