@@ -3,7 +3,8 @@ use Rattle.std.proofs.Common.{◌≡◌, ℕ, ◌+◌, ◌<◌, ◌≤◌, Bool,
 use mathlib.Core.Path.{fun_ext}
 use Rattle.std.specs.Option.{option_or}
 use Rattle.std.proofs.lemmas.List.{get_or-set_same, get_or-set_other, length-set, length-append, get_or_append_left, get_or_push, get_or_default}
-use Rattle.std.proofs.lemmas.Bool.{cases_eq, cases_lt, le-leb, lt-leb, ne_eqb, true≢false}
+use Rattle.std.proofs.lemmas.List.Folds.{find-append, find_past}
+use Rattle.std.proofs.lemmas.Bool.{false_from_ne_true, cases_eq, cases_lt, le-leb, lt-leb, ne_eqb, true≢false}
 use Rattle.decline.specs.declared.Fault.{Fault}
 use Rattle.decline.specs.Faults.{bare}
 use Rattle.decline.specs.Verdicts.{first_failed}
@@ -28,9 +29,9 @@ use Rattle.peer.specs.Replies.{plain}
 use Rattle.tables.specs.Room.{room_in, one_more}
 use Rattle.tables.specs.Calls.{Writes, applied}
 use Rattle.tables.proofs.Inputs.{test_passed}
-use Rattle.entries.proofs.Searching.{Found, found, not_found, false_if, not_both}
+use Rattle.entries.proofs.Searching.{Found, found, not_found, not_both}
 use Rattle.entries.proofs.Lookups.{none_passes}
-use Rattle.tables.proofs.Entries.{first_append, set_other, set_only}
+use Rattle.tables.proofs.Entries.{set_only}
 
 -- the log write of a key
 abbrev pub note : Key → ℕ → ℕ → Note
@@ -97,11 +98,11 @@ module _ (ls ms : List KeyedLog) (k : Key) (at s p : ℕ) (z : KeyedLog) (f : pl
           entries_in (first (is_log l) (set ls at w.entry)) ≡ cond b (entered eqb s p (entries_in (first (is_log l) ls))) (entries_in (first (is_log l) ls))
       go l true e = subst (λ (m : Key). entries_in (first (is_log m) (set ls at w.entry)) ≡ entered eqb s p (entries_in (first (is_log m) ls))) (same_key_true k l e)
           (ap entries_in (set_only (is_log k) z ls at w.entry there.within (same_test k ∙ there.passes)
-          (λ j h. false_if (is_log k (get_or ls j z)) (λ y. let c : j ≡ at = q.once k j at z (omega (arith, there.within)) there.within y there.passes in omega arith)))
+          (λ j h. false_from_ne_true (is_log k (get_or ls j z)) (λ y. let c : j ≡ at = q.once k j at z (omega (arith, there.within)) there.within y there.passes in omega arith)))
           ∙ (w.log z ∙ sym (ap (λ (o : Option KeyedLog). entered eqb s p (entries_in o)) there.value)))
       go l false e =
           let old : is_log l (get_or ls at z) ≡ false = ap (λ (m : Key). same_key m l) (same_key_true _ k there.passes) ∙ e in
-          ap entries_in (set_other (is_log l) z ls at w.entry old (same_test l ∙ old))
+          ap entries_in (find_past (is_log l) ls at w.entry z old (same_test l ∙ old))
 
   tests : (l : Key) (i : ℕ) (y : KeyedLog) → i < length ls → is_log l (get_or (set ls at w.entry) i y) ≡ is_log l (get_or ls i y)
   tests l i y h = ⊎_elim
@@ -135,7 +136,7 @@ module _ (ls ms : List KeyedLog) (k : Key) (s p : ℕ) (f : place (is_log k) 0 l
   test l = ap (λ (c : Key). same_key c l) w.key
 
   pub new_logs : logs_in ms ≡ enter (note k s p) (logs_in ls)
-  new_logs = fun_ext (λ l. ap (λ (m : List KeyedLog). entries_in (first (is_log l) m)) w.logs ∙ (ap entries_in (first_append (is_log l) ls (w.entry ∷ [])) ∙ go l (same_key k l) refl))
+  new_logs = fun_ext (λ l. ap (λ (m : List KeyedLog). entries_in (first (is_log l) m)) w.logs ∙ (ap entries_in (find-append (is_log l) ls (w.entry ∷ [])) ∙ go l (same_key k l) refl))
     where
       other : (o : Option KeyedLog) → option_or o None ≡ o
       other None = refl

@@ -1,6 +1,6 @@
 -- How the revisions of a path stand to the entries.
 use Rattle.std.proofs.Common.{◌≡◌, ℕ, ◌-◌, ◌<◌, Bool, true, cond, ◌&&◌, eqb, List, length, get_or, Some, None, vec_items, Option, sym, refl, ap, ◌∙◌, subst, arith}
-use Rattle.std.proofs.lemmas.Bool.{ne_eqb, eq-eqb, eqb-true, and_parts, false≢true}
+use Rattle.std.proofs.lemmas.Bool.{false_from_ne_true, ne_eqb, eq-eqb, eqb-true, and_parts, false≢true}
 use Rattle.revision.specs.Ids.{good_generation}
 use Rattle.entries.specs.declared.HeldRevision.{HeldRevision}
 use Rattle.entries.specs.declared.Content.{Content}
@@ -11,7 +11,7 @@ use Rattle.tables.specs.declared.Tables.{Tables}
 use Rattle.tables.specs.declared.path.Path.{Path}
 use Rattle.tables.specs.Sound.{Sound}
 use Rattle.tables.specs.Paths.{tag_in, stands, standing, NewestAt}
-use Rattle.entries.proofs.Searching.{found, not_found, false_if}
+use Rattle.entries.proofs.Searching.{found, not_found}
 use Rattle.entries.proofs.Lookups.{place_none}
 
 stands_slotted : (cs : List Content) (p q : ℕ) (s : Option ℕ) → stands (slotted cs p s) q ≡ cond (eqb p q) Agrees Against
@@ -63,4 +63,4 @@ none_yet t d p s = record {
         false≢true (sym (ap good_generation z) ∙ s.revisions.generations j no_revision l)
 
     nowhere : None ≡ place (is_revision d 0 (tag_in p 0)) 0 (vec_items t.revisions)
-    nowhere = sym (place_none (is_revision d 0 (tag_in p 0)) no_revision (vec_items t.revisions) (λ j l. false_if (is_revision d 0 (tag_in p 0) (get_or (vec_items t.revisions) j no_revision)) (not_first j l)))
+    nowhere = sym (place_none (is_revision d 0 (tag_in p 0)) no_revision (vec_items t.revisions) (λ j l. false_from_ne_true (is_revision d 0 (tag_in p 0) (get_or (vec_items t.revisions) j no_revision)) (not_first j l)))

@@ -70,8 +70,8 @@ row d tag n s g = record { document = d; generation = g; tag = tag g; parent = t
 abbrev pub rows : ℕ → (ℕ → ℕ) → ℕ → ℕ → ℕ → ℕ → List HeldRevision
 rows d tag n s k m = map (row d tag n s) (range_with_len (k + 1) m)
 
--- the documents with a new entry at a place, or behind all
-abbrev pub renewed : List Document → ℕ → Document → List Document
+-- a table with a new entry at a place, or behind all
+abbrev pub renewed : {X : Type 0} → List X → ℕ → X → List X
 renewed ds i d = cond (nat_lt i (length ds)) (slice_set ds i d) (ds ++ (d ∷ []))
 
 -- a slot keeps a content; a revision without one keeps nothing else

@@ -60,25 +60,32 @@ struct NewestHeld {
 mod logs;
 mod path;
 
+// An entry stands at its place, or behind all.
+fn put_at<T: Copy>(entries: &mut Vec<T>, at: usize, entry: T)
+    requires known { at ≤ vec_len entries.old }
+    requires room { at < vec_capacity entries.old }
+    ensures entries { entries.new.items ≡ renewed entries.old.items at entry }
+    ensures capacity { vec_capacity entries.new ≡ vec_capacity entries.old }
+{
+    if at < entries.len() {
+        entries[at] = entry;
+    } else {
+        entries.push_reserved(entry);
+    }
+}
+
 // Lays a content into a slot, or into a new one, and answers which.
 fn place_content(contents: &mut Vec<Content>, slot: Option<u8>, content: Content) -> u8
     requires room { MatchOption slot (length contents.old.items < 64) (λ s. s < length contents.old.items) }
+    requires few { length contents.old.items ≤ 64 }
     requires capacity { 64 ≤ vec_capacity contents.old }
     ensures slot { result ≡ slot_for contents.old.items slot }
     ensures contents { contents.new.items ≡ placed contents.old.items slot content }
     ensures capacity { vec_capacity contents.new ≡ vec_capacity contents.old }
 {
-    match slot {
-        Some(s) => {
-            contents[s as usize] = content;
-            s
-        }
-        None => {
-            let s = contents.len() as u8;
-            contents.push_reserved(content);
-            s
-        }
-    }
+    let s = slot.unwrap_or(contents.len() as u8);
+    put_at(contents, s as usize, content);
+    s
 }
 
 // Adds the entries of the generations of a path after generation k; the last has a slot.
@@ -97,21 +104,6 @@ fn add_missing(revisions: &mut Vec<HeldRevision>, document: u8, path: &Path, k: 
             generation,
             slot: (generation == path.generation).then_some(slot),
         });
-    }
-}
-
-// A document's entry stands at its place, or behind all.
-fn renew(documents: &mut Vec<Document>, at: usize, document: Document)
-    requires capacity { 32 ≤ vec_capacity documents.old }
-    requires room { at < 32 }
-    requires known { at ≤ vec_len documents.old }
-    ensures documents { documents.new.items ≡ renewed documents.old.items at document }
-    ensures capacity { vec_capacity documents.new ≡ vec_capacity documents.old }
-{
-    if at < documents.len() {
-        documents[at] = document;
-    } else {
-        documents.push_reserved(document);
     }
 }
 
@@ -259,7 +251,7 @@ impl Tables {
             id: path.id,
             last: self.highest,
         };
-        renew(&mut self.documents, document, entry);
+        put_at(&mut self.documents, document, entry);
     }
 
     // Writes a path to the document at a place.

@@ -4,11 +4,9 @@ ghost use Rattle.revision.specs.Ids.{IsId, good_tag};
 ghost use Rattle.tables.specs.Tags.{tag_at};
 
 use decline::{Decline, Fault};
+use entries::BODY;
 use octets::number_of;
 use revision::{DocumentId, Mark};
-
-// How many bytes a body may have.
-const BODY: usize = 96;
 
 // A path of good input: the id of a document, the tags of generations 1 to the last, 8 bytes each, and the mark and the
 // body of the last one.
