@@ -30,18 +30,7 @@ mod tests {
     fn empty(heap: Global) -> Result<Memory, Fail>
         ensures { IfOk result (λ m. Kept m) }
     {
-        match Memory::new(heap, 1, 1) {
-            Ok(peer) => Ok(peer),
-            Err(_) => Err(Fail::new("not made")),
-        }
-    }
-
-    // Why a peer was not made.
-    fn refusal(made: Result<Memory, Unmade>) -> Option<Fault> {
-        match made {
-            Err(Unmade::Declined(fault)) => Some(fault),
-            _ => None,
-        }
+        Ok(Memory::new(heap, 1, 1)?)
     }
 
     // Writes a path to a document: each of its tags is one byte eight times, and it ends live and without a body. There
@@ -250,14 +239,12 @@ mod tests {
 
     #[test]
     fn making(rt: HostRuntime) {
-        let stamp = Some(Fault::from(Decline::Stamp));
-        assert_eq!(rt; refusal(Memory::new(rt.alloc(), 0, 0)), stamp);
-        assert_eq!(rt; refusal(Memory::new(rt.alloc(), 1, 0)), stamp);
-        assert_eq!(rt;
-            refusal(Memory::new(rt.alloc(), 0, 1)),
-            Some(Fault::from(Decline::Number))
-        );
-        assert_eq!(rt; refusal(Memory::new(rt.alloc(), 1, 1)), None);
+        let stamp = Some(Unmade::Declined(Fault::from(Decline::Stamp)));
+        let number = Some(Unmade::Declined(Fault::from(Decline::Number)));
+        assert_eq!(rt; Memory::new(rt.alloc(), 0, 0).err(), stamp);
+        assert_eq!(rt; Memory::new(rt.alloc(), 1, 0).err(), stamp);
+        assert_eq!(rt; Memory::new(rt.alloc(), 0, 1).err(), number);
+        assert_eq!(rt; Memory::new(rt.alloc(), 1, 1).err(), None);
     }
 
     #[test]

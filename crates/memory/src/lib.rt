@@ -1,6 +1,10 @@
 // A peer in memory: it stands at once and never goes down.
 #![tactic(auto)]
 
+ghost use Rattle.std.specs.Prelude.{◌≡◌};
+ghost use Rattle.decline.specs.Table.{number_of};
+ghost use Rattle.decline.specs.Faults.{bare};
+ghost use Rattle.memory.specs.declared.Unmade.TheVariants.{Declined, NoMemory};
 ghost use Rattle.memory.specs.State.{state_of, Kept, Made};
 ghost use Rattle.tables.proofs.SoundLines.{sound_lined};
 
@@ -8,7 +12,7 @@ use checkpoint::Entry;
 use decline::{Decline, Fault};
 use peer::{Body, Peer, Row, WritablePeer};
 use revision::Revision;
-use std::alloc::Global;
+use std::alloc::{AllocError, Global};
 use tables::Tables;
 
 // A peer whose record is in tables.
@@ -20,10 +24,26 @@ pub struct Memory {
 }
 
 // Why a peer could not be made: its numbers were declined, or there was no memory for its tables.
-#[derive(Clone, Copy)]
+#[derive(Clone, Copy, PartialEq, Eq, Debug)]
 pub enum Unmade {
     Declined(Fault),
     NoMemory,
+}
+
+impl From<Decline> for Unmade {
+    ghost from_gives = { λ decline unmade. unmade ≡ Declined (bare (number_of decline)) };
+
+    fn from(decline: Decline) -> Unmade {
+        Unmade::Declined(Fault::from(decline))
+    }
+}
+
+impl From<AllocError> for Unmade {
+    ghost from_gives = { λ _ unmade. unmade ≡ NoMemory };
+
+    fn from(_error: AllocError) -> Unmade {
+        Unmade::NoMemory
+    }
 }
 
 impl Memory {
@@ -32,19 +52,17 @@ impl Memory {
         ensures { Made number stamp result }
     {
         if stamp == 0 {
-            return Err(Unmade::Declined(Fault::from(Decline::Stamp)));
+            return Err(Unmade::from(Decline::Stamp));
         }
         if number == 0 {
-            return Err(Unmade::Declined(Fault::from(Decline::Number)));
+            return Err(Unmade::from(Decline::Number));
         }
-        match Tables::new(heap) {
-            Ok(tables) => Ok(Memory {
-                number,
-                stamp,
-                tables,
-            }),
-            Err(_) => Err(Unmade::NoMemory),
-        }
+        let tables = Tables::new(heap)?;
+        Ok(Memory {
+            number,
+            stamp,
+            tables,
+        })
     }
 }
 
