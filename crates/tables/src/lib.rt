@@ -14,7 +14,7 @@ ghost use Rattle.entries.specs.Entries.{is_document, slot_at};
 ghost use Rattle.tables.specs.Tags.{tag_at};
 ghost use Rattle.tables.specs.PathReads.{path_of};
 ghost use Rattle.tables.specs.Sound.{Sound, Reserved};
-ghost use Rattle.tables.specs.Paths.{LookedUp, NewestRead, stripped, slot_for, placed, rows, renewed, Keeps, Fits, Grown, generation_of, kept_slot, Wrote, place_for};
+ghost use Rattle.tables.specs.Paths.{LookedUp, NewestRead, slot_for, placed, rows, renewed, Keeps, Fits, Grown, generation_of, kept_slot, Wrote, place_for};
 ghost use Rattle.std.specs.Borrow.{sem, follows};
 ghost use Rattle.std.specs.Vec.{with_item};
 ghost use Rattle.tables.specs.contracts.Tables.{the_row};
