@@ -1,6 +1,6 @@
 -- How the revisions of a path stand to the entries.
-use Rattle.std.proofs.Common.{◌≡◌, ℕ, ◌-◌, ◌<◌, Bool, true, cond, ◌&&◌, eqb, List, length, get_or, Some, None, vec_items, Option, sym, refl, ap, ◌∙◌, subst, arith}
-use Rattle.std.proofs.lemmas.Bool.{false_from_ne_true, ne_eqb, eq-eqb, eqb-true, and_parts, false≢true}
+use Rattle.std.proofs.Common.{◌≡◌, ℕ, ◌-◌, ◌<◌, ◌≤◌, Bool, true, cond, ◌&&◌, eqb, List, length, get_or, Some, None, vec_items, Option, sym, refl, ap, ◌∙◌, subst, arith, MatchOption, ⊎_elim, Ok}
+use Rattle.std.proofs.lemmas.Bool.{cases_lt, false_from_ne_true, ne_eqb, eq-eqb, eqb-true, and_parts, false≢true}
 use Rattle.revision.specs.Ids.{good_generation}
 use Rattle.entries.specs.declared.HeldRevision.{HeldRevision}
 use Rattle.entries.specs.declared.Content.{Content}
@@ -9,8 +9,9 @@ use Rattle.entries.specs.Searches.{place}
 use Rattle.entries.specs.Entries.{no_revision, is_revision, tree_at, node_of, slotted, slot_at}
 use Rattle.tables.specs.declared.Tables.{Tables}
 use Rattle.tables.specs.declared.path.Path.{Path}
+use Rattle.tables.specs.declared.Held.{Held}
 use Rattle.tables.specs.Sound.{Sound}
-use Rattle.tables.specs.Paths.{tag_in, stands, standing, NewestAt}
+use Rattle.tables.specs.Paths.{tag_in, tree_in, LookedUp, stands, standing, NewestAt}
 use Rattle.entries.proofs.Searching.{found, not_found}
 use Rattle.entries.proofs.Lookups.{place_none}
 
@@ -45,7 +46,7 @@ module _ (rs es : List HeldRevision) (cs : List Content) (d g x : ℕ) (tag : �
   )
 
 -- no generation of a path is looked at yet: no entry has generation 0
-pub none_yet : (t : Tables) (d : ℕ) (p : Path) → Sound t → NewestAt t d p 0 record { generation = 0; place = None; slot = None }
+pub none_yet : (t : Tables) (d : ℕ) (p : Path) → Sound t → NewestAt t d p 0 None
 none_yet t d p s = record {
   newest = record { within = omega arith; agrees = λ g l h. absurd (omega arith); last = λ l. absurd (omega arith); beyond = λ g l h. absurd (omega arith) };
   entry = nowhere;
@@ -64,3 +65,38 @@ none_yet t d p s = record {
 
     nowhere : None ≡ place (is_revision d 0 (tag_in p 0)) 0 (vec_items t.revisions)
     nowhere = sym (place_none (is_revision d 0 (tag_in p 0)) no_revision (vec_items t.revisions) (λ j l. false_from_ne_true (is_revision d 0 (tag_in p 0) (get_or (vec_items t.revisions) j no_revision)) (not_first j l)))
+
+-- one generation more is looked at: one that is held is the newest, one that is missing changes nothing
+module _ (t : Tables) (d : ℕ) (p : Path) (g m : ℕ) (o : Option Held) (l : 0 < g) (e : m ≡ g) (nw : NewestAt t d p (g - 1) o) where
+  agrees_more : (standing (tree_in t d) (tag_in p) g ≡ Against → ⊥) → (j : ℕ) → 0 < j → j ≤ m → standing (tree_in t d) (tag_in p) j ≡ Against → ⊥
+  agrees_more n j a b c = ⊎_elim
+      (λ (x : j < g). nw.newest.agrees j a (omega arith) c)
+      (λ (x : g ≤ j). let y : j ≡ g = omega arith in n (subst (λ (i : ℕ). standing (tree_in t d) (tag_in p) i ≡ Against) y c))
+      (cases_lt j g)
+
+  pub newer : (i : ℕ) (s : Option ℕ) → LookedUp t d p g (Ok (Some i)) → s ≡ slot_at (vec_items t.revisions) (Some i) → MatchOption s Unit (λ v. v < length (vec_items t.contents)) →
+      NewestAt t d p m (Some (record { generation = g; place = i; slot = s }))
+  newer i s k q w = record {
+    newest = record { within = omega arith; agrees = agrees_more (λ c. let z : Agrees ≡ Against = sym k.0 ∙ c in cc); last = λ a. k.0; beyond = λ j a b. absurd (omega arith) };
+    entry = sym k.1;
+    slot = q ∙ ap (slot_at (vec_items t.revisions)) (sym k.1);
+    within = k.2;
+    there = w;
+  }
+
+  pub no_newer : LookedUp t d p g (Ok None) → NewestAt t d p m o
+  no_newer k = record {
+    newest = record {
+      within = omega (arith, nw.newest.within);
+      agrees = agrees_more (λ c. let z : Missing ≡ Against = sym k ∙ c in cc);
+      last = nw.newest.last;
+      beyond = λ j a b. ⊎_elim
+          (λ (x : j < g). nw.newest.beyond j a (omega arith))
+          (λ (x : g ≤ j). let y : g ≡ j = omega arith in subst (λ (i : ℕ). standing (tree_in t d) (tag_in p) i ≡ Missing) y k)
+          (cases_lt j g);
+    };
+    entry = nw.entry;
+    slot = nw.slot;
+    within = nw.within;
+    there = nw.there;
+  }

@@ -1,5 +1,6 @@
 -- How a path is written to the tables.
 use Rattle.std.specs.Prelude.{◌≡◌, ℕ, ◌+◌, ◌-◌, ◌<◌, ◌≤◌, cond, ◌⊎◌, List, [], ◌∷◌, ◌++◌, map, length, Some, None, Ok, Err, vec_items, vec_capacity, Option, Result, MatchOption, ◌==◌, ◌≢◌, nat_lt, slice_index_or, slice_set}
+use Rattle.std.specs.Option.{option_map, option_map_or, option_and_then}
 use Rattle.std.specs.List.{range_with_len}
 use Rattle.decline.specs.declared.Fault.{Fault}
 use Rattle.decline.specs.Faults.{bare}
@@ -9,7 +10,7 @@ use Rattle.revision.specs.Trees.{Node, absent, inner, head, Tree}
 use Rattle.entries.specs.declared.Document.{Document}
 use Rattle.entries.specs.declared.HeldRevision.{HeldRevision}
 use Rattle.entries.specs.declared.Content.{Content}
-use Rattle.tables.specs.declared.NewestHeld.{NewestHeld}
+use Rattle.tables.specs.declared.Held.{Held}
 use Rattle.tables.specs.declared.Tables.{Tables}
 use Rattle.tables.specs.declared.path.Path.{Path}
 use Rattle.tables.specs.Tags.{tag_at}
@@ -114,10 +115,6 @@ entry_of t d tag k = place (is_revision d k (tag k)) 0 (vec_items t.revisions)
 abbrev pub slot_of : Tables → ℕ → (ℕ → ℕ) → ℕ → Option ℕ
 slot_of t d tag k = slot_at (vec_items t.revisions) (entry_of t d tag k)
 
--- a place that is one of the entries', or none
-abbrev pub Inside : Tables → Option ℕ → Type 0
-Inside t o = MatchOption o Unit (λ i. i < length (vec_items t.revisions))
-
 -- the tag of a path's generation
 abbrev pub tag_in : Path → ℕ → ℕ
 tag_in p = tag_at p.tags.now
@@ -128,22 +125,32 @@ LookedUp t d p g (Ok None) = standing (tree_in t d) (tag_in p) g ≡ Missing
 LookedUp t d p g (Ok (Some i)) = (standing (tree_in t d) (tag_in p) g ≡ Agrees) × (entry_of t d (tag_in p) g ≡ Some i) × (i < length (vec_items t.revisions))
 LookedUp t d p g (Err e) = (standing (tree_in t d) (tag_in p) g ≡ Against) × (e ≡ bare 34)
 
--- of the first n generations of a path the newest that is held, or 0, with the place of its entry and its slot
-pub record NewestAt (t : Tables) (d : ℕ) (p : Path) (n : ℕ) (h : NewestHeld) : Type 0 where
-  pub newest : Newest (standing (tree_in t d) (tag_in p)) n h.generation
-  pub entry : h.place ≡ entry_of t d (tag_in p) h.generation
-  pub slot : h.slot ≡ slot_of t d (tag_in p) h.generation
-  pub within : Inside t h.place
-  pub there : MatchOption h.slot Unit (λ s. s < length (vec_items t.contents))
+-- the generation that is held, 0 where none is; the place of its entry, and its slot
+abbrev pub generation_of : Option Held → ℕ
+generation_of o = option_map_or (λ h. h.generation) o 0
+
+abbrev pub place_of : Option Held → Option ℕ
+place_of o = option_map (λ h. h.place) o
+
+abbrev pub kept_slot : Option Held → Option ℕ
+kept_slot o = option_and_then (λ h. h.slot) o
+
+-- of the first n generations of a path the newest that is held
+pub record NewestAt (t : Tables) (d : ℕ) (p : Path) (n : ℕ) (o : Option Held) : Type 0 where
+  pub newest : Newest (standing (tree_in t d) (tag_in p)) n (generation_of o)
+  pub entry : place_of o ≡ entry_of t d (tag_in p) (generation_of o)
+  pub slot : kept_slot o ≡ slot_of t d (tag_in p) (generation_of o)
+  pub within : MatchOption o Unit (λ h. h.place < length (vec_items t.revisions))
+  pub there : MatchOption (kept_slot o) Unit (λ s. s < length (vec_items t.contents))
 
 -- reading the newest generation of a path that is held; declined 34 where one is held under another parent
-abbrev pub NewestRead : Tables → ℕ → Path → Result NewestHeld Fault → Type 0
-NewestRead t d p (Ok h) = NewestAt t d p p.generation h
+abbrev pub NewestRead : Tables → ℕ → Path → Result (Option Held) Fault → Type 0
+NewestRead t d p (Ok o) = NewestAt t d p p.generation o
 NewestRead t d p (Err e) = Clash (standing (tree_in t d) (tag_in p)) p.generation × (e ≡ bare 34)
 
 -- the tables with a path after its newest held generation
-abbrev pub Grown : Tables → ℕ → Path → NewestHeld → Tables → Type 0
-Grown t d p h u = (x : Content) × (content_of x ≡ (path_of p).content) × (x.length ≤ 96) × Extended t p.id d (tag_in p) p.generation h.generation h.place h.slot x u
+abbrev pub Grown : Tables → ℕ → Path → Option Held → Tables → Type 0
+Grown t d p o u = (x : Content) × (content_of x ≡ (path_of p).content) × (x.length ≤ 96) × Extended t p.id d (tag_in p) p.generation (generation_of o) (place_of o) (kept_slot o) x u
 
 -- What a path write does to the tables. It is declined 34 if a generation is held under another parent, or the last one is a head with other content; it
 -- changes nothing if the last one is held; else it is declined 35 for want of room, or written.

@@ -14,7 +14,7 @@ ghost use Rattle.entries.specs.Entries.{is_document, slot_at};
 ghost use Rattle.tables.specs.Tags.{tag_at};
 ghost use Rattle.tables.specs.PathReads.{path_of};
 ghost use Rattle.tables.specs.Sound.{Sound, Reserved};
-ghost use Rattle.tables.specs.Paths.{LookedUp, NewestRead, stripped, slot_for, placed, rows, renewed, Keeps, Fits, Grown, Wrote, place_for};
+ghost use Rattle.tables.specs.Paths.{LookedUp, NewestRead, slot_for, placed, rows, renewed, Keeps, Fits, Grown, generation_of, kept_slot, Wrote, place_for};
 ghost use Rattle.std.specs.Borrow.{sem, follows};
 ghost use Rattle.std.specs.Vec.{with_item};
 ghost use Rattle.tables.specs.contracts.Tables.{the_row};
@@ -47,13 +47,11 @@ pub struct Tables {
     pub highest: u32,
 }
 
-// The newest generation of a path that is held, the place of its entry, and its slot if it is a head; generation 0,
-// with neither, where none is held.
-// Kept: what is missing is counted from this generation; an `Option` of all three would be unpacked at every use.
+// A generation of a path that is held: the place of its entry, and its slot if it is a head.
 #[derive(Clone, Copy)]
-struct NewestHeld {
+struct Held {
     generation: u8,
-    place: Option<usize>,
+    place: usize,
     slot: Option<u8>,
 }
 
@@ -149,33 +147,30 @@ impl Tables {
                 tag: path.tag(generation),
             },
         };
-        let Some(i) = place_in(revisions, &revision) else {
+        let Some(place) = place_in(revisions, &revision) else {
             return Ok(None);
         };
-        if revisions[i].parent != path.tag(generation - 1) {
+        if revisions[place].parent != path.tag(generation - 1) {
             return Err(Decline::Contradiction.into());
         }
-        Ok(Some(i))
+        Ok(Some(place))
     }
 
-    // The newest generation of a path that is held; declined 34 where one is held under another parent. The table is gone
-    // through once for each generation.
-    fn newest_held(&self, document: u8, path: &Path) -> Result<NewestHeld, Fault>
+    // The newest generation of a path that is held, or none; declined 34 where one is held under another parent. The table
+    // is gone through once for each generation.
+    fn newest_held(&self, document: u8, path: &Path) -> Result<Option<Held>, Fault>
         requires { Sound self.now }
         ensures { NewestRead self.now document path.now result }
     {
-        let mut newest = NewestHeld {
-            generation: 0,
-            place: None,
-            slot: None,
-        };
+        let mut newest = None;
         for generation in 1..=path.generation {
-            if let Some(i) = self.look_up(document, path, generation)? {
-                newest = NewestHeld {
+            if let Some(place) = self.look_up(document, path, generation)? {
+                let slot = self.slot_at(Some(place));
+                newest = Some(Held {
                     generation,
-                    place: Some(i),
-                    slot: self.slot_at(Some(i)),
-                };
+                    place,
+                    slot,
+                });
             }
         }
         Ok(newest)
@@ -231,20 +226,24 @@ impl Tables {
     }
 
     // Adds the generations of a path after the newest held one.
-    fn extend(&mut self, document: usize, path: &Path, newest: NewestHeld)
+    fn extend(&mut self, document: usize, path: &Path, newest: Option<Held>)
         requires reserved { Reserved self.old }
-        requires order { newest.generation < path.now.generation }
+        requires order { generation_of newest < path.now.generation }
         requires known { document ≤ length self.old.documents.items }
-        requires there { (IfSome newest.place (λ i. i < length self.old.revisions.items)) × (IfSome newest.slot (λ s. s < length self.old.contents.items)) }
-        requires room { Fits self.old document (path.now.generation - newest.generation) newest.slot }
+        requires there { IfSome newest (λ held. held.place < length self.old.revisions.items) }
+        requires kept { IfSome (kept_slot newest) (λ s. s < length self.old.contents.items) }
+        requires room { Fits self.old document (path.now.generation - generation_of newest) (kept_slot newest) }
         ensures { Grown self.old document path.now newest self.new }
     {
-        if let Some(i) = newest.place {
-            self.revision_mut(i).slot = None;
-        }
+        let (k, slot) = match newest {
+            Some(held) => {
+                self.revision_mut(held.place).slot = None;
+                (held.generation, held.slot)
+            }
+            None => (0, None),
+        };
         let content = Content::new(path.mark, path.body);
-        let slot = place_content(&mut self.contents, newest.slot, content);
-        let k = newest.generation;
+        let slot = place_content(&mut self.contents, slot, content);
         add_missing(&mut self.revisions, document as u8, path, k, slot);
         self.highest += 1;
         let entry = Document {
@@ -261,13 +260,15 @@ impl Tables {
         ensures { Wrote self.old document path.now result self.new }
     {
         let newest = self.newest_held(document as u8, path)?;
-        if newest.generation == path.generation {
-            if self.keeps(newest.slot, path) {
+        let generation = newest.map_or(0, |held| held.generation);
+        let slot = newest.and_then(|held| held.slot);
+        if generation == path.generation {
+            if self.keeps(slot, path) {
                 return Ok(0);
             }
             return Err(Decline::Contradiction.into());
         }
-        if !self.has_room(document, path.generation - newest.generation, newest.slot) {
+        if !self.has_room(document, path.generation - generation, slot) {
             return Err(Decline::Full.into());
         }
         self.extend(document, path, newest);

@@ -8,14 +8,14 @@ returns-in_default c =
     stands_missing _ _ (vec_items c.args.self.now.contents) c.args.document c.args.generation _ (tag_at c.args.path.now.tags.now) c.as_slice-revisions.ensures.value c.tag.ensures
     (sym c.in_default.is ∙ c.place_in.ensures.value)
 
-pub returns-then-revisions-i : goal.returns-then-revisions-i
-returns-then-revisions-i c = (
+pub returns-then-revisions-place : goal.returns-then-revisions-place
+returns-then-revisions-place c = (
   stands_against _ _ (vec_items c.args.self.now.contents) c.args.document c.args.generation _ (tag_at c.args.path.now.tags.now) c.as_slice-revisions.ensures.value c.tag.ensures _ _ _
-      c.in-Some.ensures.value c.tag-2.ensures c.if-revisions-i.true,
+      c.in-Some.ensures.value c.tag-2.ensures c.if-revisions-place.true,
   c.into.ensures,
 )
 
 pub returns : goal.returns
 returns c =
     stands_agrees _ _ (vec_items c.args.self.now.contents) c.args.document c.args.generation _ (tag_at c.args.path.now.tags.now) c.as_slice-revisions.ensures.value c.tag.ensures _ _ _
-    c.in-Some.ensures.value c.in-Some.ensures.within c.tag-2.ensures c.if-revisions-i.false
+    c.in-Some.ensures.value c.in-Some.ensures.within c.tag-2.ensures c.if-revisions-place.false
