@@ -93,6 +93,7 @@ fn replace(entries: &mut [Entry], entry: Entry) -> bool
     ensures there { result ≡ listed nat_eq entry.stamp (pairs entries.old) }
     ensures after { pairs entries.new ≡ replaced nat_eq entry.stamp entry.position (pairs entries.old) }
 {
+    // Kept: each entry with the stamp is set, so the walk goes on behind the first, and the flag is its answer.
     let mut there = false;
     for e in entries.iter_mut() {
         if e.stamp == entry.stamp {
@@ -130,6 +131,7 @@ pub fn compare(ours: &[Entry], theirs: &[Entry]) -> (u32, usize)
 {
     let mut best = 0;
     let mut common = 0;
+    // Kept: one walk gives both answers; two chains would compare each entry twice.
     for e in ours {
         if let Some(position) = meet(*e, theirs) {
             best = later(best, position);

@@ -54,6 +54,7 @@ impl From<Decline> for u8 {
 }
 
 // A row of the table: a number with its layer and word.
+// Kept: by a rule of the project the table is looked up by number, so a row has the number and not the reason.
 #[derive(Clone, Copy)]
 pub struct Entry {
     pub number: u8,
@@ -206,6 +207,7 @@ impl From<Side> for u8 {
 }
 
 // What a device declines: a number and the block that it was asked for. The number 0 says that there is none.
+// Kept: it is a part of faults, which are plain numbers by a rule of the project; so 0 stands for none in place of an Option.
 #[derive(Clone, Copy, PartialEq, Eq, Debug)]
 pub struct BlockFault {
     pub number: u8,

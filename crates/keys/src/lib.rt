@@ -18,6 +18,7 @@ pub struct Rule {
 
 impl Rule {
     // Reads a prefix of 0 to 16 bytes, each of which may stand in an id; anything else is declined 19.
+    // Kept: a named function, as for ids; and of the two readings each has its own number and first test, which one function would have to be given.
     pub fn read(prefix: &[u8]) -> Result<Rule, Fault>
         ensures { RuleRead prefix.now result }
     {
@@ -87,6 +88,7 @@ impl Key {
         })
     }
 
+    // Kept: a named function, as std's `to_be_bytes`, since the name says which bytes these are.
     // The 25 bytes of a key: both numbers, the prefix's length, and the prefix filled with zeros to 16.
     pub fn bytes(self) -> [u8; 25]
         ensures { result ≡ key_bytes (key_of self) }
@@ -123,6 +125,7 @@ impl Key {
         Ok(key)
     }
 
+    // Kept: a named function, as for ids.
     // Reads a key's bytes. A number 0 is declined 16 (bytes that are not there count as none), any other form 19.
     pub fn read(bytes: &[u8]) -> Result<Key, Fault>
         ensures { KeyRead bytes.now result }

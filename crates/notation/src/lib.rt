@@ -25,6 +25,7 @@ fn numeral(base: u32, most: usize, text: &[u8]) -> Option<u64>
         return None;
     }
     let mut n: u64 = 0;
+    // Kept: a byte that is no digit ends it with none, which a `for` with `?` says more plainly than a try_fold.
     for c in text {
         let digit = (*c as char).to_digit(base)?;
         n = n * base as u64 + digit as u64;
@@ -43,6 +44,7 @@ fn parse(text: &[u8]) -> Option<Revision>
 }
 
 // Reads the text of a revision; declined as no revision where it is none.
+// Kept: a named function, since the type is of another crate, for which this one may write no FromStr or TryFrom.
 pub fn read(text: &[u8]) -> Result<Revision, Fault>
     ensures { Reads text.now result }
 {

@@ -13,6 +13,7 @@ pub fn number_of(bytes: &[u8]) -> u64
     ensures { result ≡ number (take 8 bytes.now) }
 {
     let mut n: u64 = 0;
+    // Kept: tried as a fold, whose closure has no bound for its product.
     for b in &bytes[..bytes.len().min(8)] {
         n = n * 256 + u64::from(*b);
     }
@@ -66,6 +67,7 @@ pub struct Packed {
 
 impl Packed {
     // Packs bytes; none where there are more than 16.
+    // Kept: a named function: that bytes are too many is no error here, and TryFrom would have to name one.
     pub fn read(bytes: &[u8]) -> Option<Packed>
         ensures { MatchOption result (16 < length bytes.now) (λ p. Packs bytes.now p) }
     {
@@ -81,6 +83,7 @@ impl Packed {
         })
     }
 
+    // Kept: a named function, as std's `to_be_bytes`: beside it stands `unpacked`, and a From could not say which is meant.
     // The bytes of both numbers; those from the length on are no part of what is packed.
     pub fn bytes(&self) -> [u8; 16]
         ensures { result ≡ sixteen self.now }

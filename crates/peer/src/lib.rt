@@ -69,6 +69,7 @@ pub trait Peer {
         ensures calls { Replies (Function.head_at id.now i) (perhaps revision_of) (state self.old) result (state self.new) };
 
     // Whether a revision is held.
+    // Kept: id and revision are two arguments, here and below: an id comes as bytes that may be none, and head_at gives revisions alone.
     fn is_held(&mut self, id: &[u8], revision: Revision) -> Result<bool, Fault>
         requires { kept self.old }
         ensures keeps { kept self.new }

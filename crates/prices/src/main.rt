@@ -41,11 +41,10 @@ fn cut(text: &[u8], b: u8) -> (&[u8], &[u8])
 fn mark_in(text: &[u8]) -> Result<Mark, Fault>
     ensures { MarkField text.now result }
 {
-    match text {
-        b"0" => Ok(Mark::Live),
-        b"1" => Ok(Mark::Deleted),
-        _ => Err(Fault::from(Decline::Mark)),
-    }
+    let [digit] = text else {
+        return Err(Fault::from(Decline::Mark));
+    };
+    Mark::try_from(digit.wrapping_sub(b'0'))
 }
 
 // Reads a line: declined 11, 12, 13 or 14 for the first part that is bad.
@@ -97,6 +96,7 @@ fn added<'a>(prices: &[Price<'_>], line: &'a [u8]) -> Result<Option<Price<'a>>, 
 }
 
 // Adds a product's id.
+// Kept: here and below bytes are copied, since the body of a price may be no text, which Display could not write.
 fn add_id(out: &mut Vec<u8>, product: DocumentId) -> io::Result<()> {
     let mut text = [0u8; 16];
     if let Ok(n) = product.lay(&mut text) {
