@@ -1,7 +1,7 @@
 -- Elements that pass a test: by the first, by its place, and where only one does.
 use Rattle.std.proofs.Common.{◌≡◌, ℕ, zero, suc, ◌+◌, ◌<◌, ◌≤◌, Bool, true, false, cond, List, [], ◌∷◌, length, get_or, Some, None, sym, refl, ap, ◌∙◌, arith}
 use Rattle.entries.specs.Searches.{first, place, Once}
-use Rattle.entries.proofs.Searching.{false_if}
+use Rattle.std.proofs.lemmas.Bool.{false_from_ne_true}
 
 -- an element by its place
 pub record Element {X : Type 0} (p : X → Bool) (xs : List X) (y : X) : Type 0 where
@@ -27,14 +27,14 @@ module _ {X : Type 0} (p : X → Bool) where
   first_once z [] i o h e = absurd (omega arith)
   first_once z (x ∷ xs) zero o h e = ap (λ b. cond b (Some x) (first p xs)) e
   first_once z (x ∷ xs) (suc i) o h e =
-      let f : p x ≡ false = false_if (p x) (λ t. let s : 0 ≡ suc i = o 0 (suc i) z (omega arith) h t e in omega arith) in
+      let f : p x ≡ false = false_from_ne_true (p x) (λ t. let s : 0 ≡ suc i = o 0 (suc i) z (omega arith) h t e in omega arith) in
       ap (λ b. cond b (Some x) (first p xs)) f ∙ first_once z xs i (tail_once x xs o) (omega arith) e
 
   place_from : (z : X) (xs : List X) (k i : ℕ) → Once p xs → i < length xs → p (get_or xs i z) ≡ true → place p k xs ≡ Some (k + i)
   place_from z [] k i o h e = absurd (omega arith)
   place_from z (x ∷ xs) k zero o h e = let s : k ≡ k + 0 = omega arith in ap (λ b. cond b (Some k) (place p (k + 1) xs)) e ∙ ap (λ (n : ℕ). Some n) s
   place_from z (x ∷ xs) k (suc i) o h e =
-      let f : p x ≡ false = false_if (p x) (λ t. let s : 0 ≡ suc i = o 0 (suc i) z (omega arith) h t e in omega arith) in
+      let f : p x ≡ false = false_from_ne_true (p x) (λ t. let s : 0 ≡ suc i = o 0 (suc i) z (omega arith) h t e in omega arith) in
       let s : (k + 1) + i ≡ k + suc i = omega arith in
       ap (λ b. cond b (Some k) (place p (k + 1) xs)) f ∙ (place_from z xs (k + 1) i (tail_once x xs o) (omega arith) e ∙ ap (λ (n : ℕ). Some n) s)
 

@@ -1,13 +1,13 @@
 -- Looking along a list: what the place found says.
-use Rattle.std.proofs.Common.{◌≡◌, ℕ, suc, ◌+◌, ◌<◌, Bool, true, false, cond, List, [], ◌∷◌, length, get_or, Some, None, sym, refl, ap, ◌∙◌, ⊎_elim, arith}
-use Rattle.std.proofs.lemmas.Bool.{cases_Bool}
+use Rattle.std.proofs.Common.{◌≡◌, ℕ, suc, ◌+◌, ◌<◌, Bool, true, false, cond, List, [], ◌∷◌, length, get_or, Some, None, sym, refl, ap, ◌∙◌, arith}
+use Rattle.std.proofs.lemmas.Bool.{true≢false, false_from_ne_true}
 use Rattle.entries.specs.Searches.{first, place}
 
 pub not_both : (b : Bool) → b ≡ true → b ≡ false → ⊥
-not_both b p q = let z : true ≡ false = sym p ∙ q in let y : ◌≡◌ {A = ℕ} 0 1 = cc in omega arith
+not_both b p q = true≢false (sym p ∙ q)
 
 pub false_if : (b : Bool) → (b ≡ true → ⊥) → b ≡ false
-false_if b h = ⊎_elim (λ (e : b ≡ true). absurd (h e)) (λ (e : b ≡ false). e) (cases_Bool b)
+false_if b h = false_from_ne_true b h
 
 -- what stands at the place that was found
 pub record Found {X : Type 0} (p : X → Bool) (xs : List X) (d : X) (j : ℕ) : Type 0 where

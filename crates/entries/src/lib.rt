@@ -15,6 +15,9 @@ use keys::Key;
 use octets::Packed;
 use revision::{DocumentId, Mark, Revision};
 
+// How many bytes a body may have.
+pub const BODY: usize = 96;
+
 // A document with its last change number.
 #[derive(Clone, Copy)]
 pub struct Document {
@@ -24,7 +27,7 @@ pub struct Document {
 
 // A revision that is held: its tag and its parent's, its document's place, and, if it is a head, the slot of its
 // content. The wide fields stand first.
-// Kept: an entry takes 24 bytes of fixed memory; with a `Revision` inside it would take 32.
+// Kept: in fixed memory an entry takes 24 bytes: documents and contents go by their places, a first revision has parent 0, and a `Revision` inside would add 8.
 #[derive(Clone, Copy)]
 pub struct HeldRevision {
     pub tag: u64,
@@ -52,7 +55,7 @@ impl HeldRevision {
 pub struct Content {
     pub mark: Mark,
     pub length: u8,
-    pub body: [u8; 96],
+    pub body: [u8; BODY],
 }
 
 impl Content {
@@ -63,7 +66,7 @@ impl Content {
         ensures short { result.length ≤ 96 }
     {
         let length = body.len();
-        let mut all = [0; 96];
+        let mut all = [0; BODY];
         all[..length].copy_from_slice(body);
         Content {
             mark,
@@ -77,7 +80,7 @@ impl Content {
         ensures body { result.now ≡ (content_of self.now).body }
         ensures short { length result.now ≤ 96 }
     {
-        &self.body[..(self.length as usize).min(96)]
+        &self.body[..(self.length as usize).min(BODY)]
     }
 
     // Whether this mark and body are kept.

@@ -2,7 +2,8 @@
 use Rattle.std.proofs.Common.{◌≡◌, ℕ, zero, suc, ◌+◌, ◌<◌, ◌≤◌, Bool, true, false, cond, ◌⊎◌, List, [], ◌∷◌, ◌++◌, length, get_or, set, Some, None, Option, sym, refl, ap, ◌∙◌, subst, inl, inr, ⊎_elim, arith}
 use mathlib.Core.Path.{fun_ext}
 use Rattle.std.proofs.lemmas.List.{get_or-set_same, get_or-set_other, length-set, length-append, get_or_append_left, get_or_at}
-use Rattle.std.proofs.lemmas.Bool.{cases_eq, cases_lt, lt-ltb, le-ltb}
+use Rattle.std.proofs.lemmas.List.Folds.{find_past}
+use Rattle.std.proofs.lemmas.Bool.{false_from_ne_true, cases_eq, cases_lt, lt-ltb, le-ltb}
 use Rattle.octets.specs.Packed.{unpacked}
 use Rattle.order.specs.Lists.{same}
 use Rattle.order.proofs.Lists.{same_true}
@@ -18,9 +19,9 @@ use Rattle.entries.specs.Searches.{first, place, Once, Every}
 use Rattle.entries.specs.Entries.{is_document, is_revision, tree_at, tree_from, node_of, last_of, documents_in, no_revision}
 use Rattle.tables.specs.Sound.{SoundDocuments, SoundRevisions}
 use Rattle.tables.specs.Paths.{place_for, renewed}
-use Rattle.entries.proofs.Searching.{found, not_both, false_if}
+use Rattle.entries.proofs.Searching.{found, not_both}
 use Rattle.entries.proofs.Lookups.{first_once, place_once, first_none}
-use Rattle.tables.proofs.Entries.{set_other, three_same}
+use Rattle.tables.proofs.Entries.{three_same}
 
 module _ {X : Type 0} (p : X → Bool) where
   place_set_other : (z : X) (xs : List X) (k i : ℕ) (h : X) → p (get_or xs i z) ≡ false → p h ≡ false → place p k (set xs i h) ≡ place p k xs
@@ -41,7 +42,7 @@ pub known_tree : (ds : List Document) (rs : List HeldRevision) (cs : List Conten
 known_tree ds rs cs None rev = fun_ext (λ g. fun_ext (λ x. sym (ap (node_of cs) (none g x))))
   where
     none : (g x : ℕ) → first (is_revision (length ds) g x) rs ≡ None
-    none g x = first_none (is_revision (length ds) g x) no_revision rs (λ j l. false_if _ (λ t.
+    none g x = first_none (is_revision (length ds) g x) no_revision rs (λ j l. false_from_ne_true _ (λ t.
         let r = get_or rs j no_revision in
         let u = three_same r.document (length ds) r.generation g r.tag x t in
         let v = rev.owned j no_revision l in omega (arith, u.0)))
@@ -166,7 +167,7 @@ module _ (ds : List Document) (h : ℕ) (id : DocumentId) (o : Option ℕ) (soun
 
       go : ((i : ℕ) × (o ≡ Some i) × (ds' ≡ set ds i (record { id = id; last = h + 1 })) × (place_for ds o ≡ i)) ⊎ ((o ≡ None) × (ds' ≡ ds ++ (record { id = id; last = h + 1 } ∷ [])) × (place_for ds o ≡ length ds)) →
           (place (is_document e) 0 ds' ≡ place (is_document e) 0 ds) × (first (is_document e) ds' ≡ first (is_document e) ds)
-      go (inl (i, k, r, s)) = (ap (place (is_document e) 0) r ∙ place_set_other (is_document e) nothing ds 0 i (record { id = id; last = h + 1 }) (off i k) q, ap (first (is_document e)) r ∙ set_other (is_document e) nothing ds i (record { id = id; last = h + 1 }) (off i k) q)
+      go (inl (i, k, r, s)) = (ap (place (is_document e) 0) r ∙ place_set_other (is_document e) nothing ds 0 i (record { id = id; last = h + 1 }) (off i k) q, ap (first (is_document e)) r ∙ find_past (is_document e) ds i (record { id = id; last = h + 1 }) nothing (off i k) q)
       go (inr (k, r, s)) = (ap (place (is_document e) 0) r ∙ place_push (is_document e) ds 0 (record { id = id; last = h + 1 }) q, ap (first (is_document e)) r ∙ first_push (is_document e) ds (record { id = id; last = h + 1 }) q)
 
   -- the place of another document is another place

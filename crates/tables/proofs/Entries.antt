@@ -1,13 +1,11 @@
 -- The entries after a path write: those that were there, the one that lost its slot, and the new ones.
-use Rattle.std.proofs.Common.{◌≡◌, ℕ, zero, suc, ◌+◌, ◌<◌, ◌≤◌, Bool, true, false, cond, ◌&&◌, eqb, List, [], ◌∷◌, ◌++◌, length, get_or, set, is_some, Some, None, Option, sym, refl, ap, ◌∙◌, ⊎_elim, arith}
-use Rattle.std.specs.Option.{option_or}
-use Rattle.std.proofs.lemmas.Bool.{and_parts, and_from, eqb-true, eq-eqb, ne_eqb, cases_eq}
+use Rattle.std.proofs.Common.{◌≡◌, ℕ, zero, suc, ◌+◌, ◌<◌, ◌≤◌, Bool, true, false, cond, ◌&&◌, eqb, List, [], ◌∷◌, ◌++◌, length, get_or, set, is_some, Some, None, sym, refl, ap, ◌∙◌, ⊎_elim, arith}
+use Rattle.std.proofs.lemmas.Bool.{false_from_ne_true, and_parts, and_from, eqb-true, eq-eqb, ne_eqb, cases_eq}
 use Rattle.entries.specs.declared.HeldRevision.{HeldRevision}
 use Rattle.entries.specs.Searches.{first, count}
 use Rattle.entries.specs.Entries.{is_revision}
 use Rattle.tables.specs.Sound.{has_slot}
 use Rattle.tables.specs.Paths.{row, rows}
-use Rattle.entries.proofs.Searching.{false_if}
 
 abbrev three : ℕ → ℕ → ℕ → ℕ → ℕ → ℕ → Bool
 three a d b g c x = eqb a d && (eqb b g && eqb c x)
@@ -23,16 +21,7 @@ pub three_true : (a d b g c x : ℕ) → a ≡ d → b ≡ g → c ≡ x → thr
 three_true a d b g c x p q r = and_from (eqb a d) (eqb b g && eqb c x) (eq-eqb a d p) (and_from (eqb b g) (eqb c x) (eq-eqb b g q) (eq-eqb c x r))
 
 module _ {X : Type 0} (p : X → Bool) where
-  pub first_append : (xs ys : List X) → first p (xs ++ ys) ≡ option_or (first p xs) (first p ys)
-  first_append [] ys = refl
-  first_append (x ∷ xs) ys = elim (p x) as (λ b. cond b (Some x) (first p (xs ++ ys)) ≡ option_or (cond b (Some x) (first p xs)) (first p ys)) [ true ↦ refl | false ↦ first_append xs ys ]
-
-  -- an element laid over another: where neither passes, and where the first that passes is laid over by one that passes
-  pub set_other : (z : X) (xs : List X) (i : ℕ) (h : X) → p (get_or xs i z) ≡ false → p h ≡ false → first p (set xs i h) ≡ first p xs
-  set_other z [] i h q f = refl
-  set_other z (x ∷ xs) zero h q f = ap (λ (b : Bool). cond b (Some h) (first p xs)) f ∙ sym (ap (λ (b : Bool). cond b (Some x) (first p xs)) q)
-  set_other z (x ∷ xs) (suc i) h q f = ap (λ (o : Option X). cond (p x) (Some x) o) (set_other z xs i h q f)
-
+  -- the first element that passes is laid over by one that passes
   pub set_only : (z : X) (xs : List X) (i : ℕ) (h : X) → i < length xs → p h ≡ true → ((j : ℕ) → j < i → p (get_or xs j z) ≡ false) → first p (set xs i h) ≡ Some h
   set_only z [] i h l t f = absurd (omega arith)
   set_only z (x ∷ xs) zero h l t f = ap (λ (b : Bool). cond b (Some h) (first p xs)) t
@@ -63,7 +52,7 @@ module _ (d : ℕ) (tag : ℕ → ℕ) (n s : ℕ) where
   rows_miss k zero e g x h = refl
   rows_miss k (suc m) e g x h =
       let f : is_revision e g x (row d tag n s (k + 1)) ≡ false =
-      false_if _ (λ q. let r = three_same d e (k + 1) g (tag (k + 1)) x q in h (sym r.0, omega (arith, r.1), omega (arith, r.1), sym r.2 ∙ ap tag r.1)) in
+      false_from_ne_true _ (λ q. let r = three_same d e (k + 1) g (tag (k + 1)) x q in h (sym r.0, omega (arith, r.1), omega (arith, r.1), sym r.2 ∙ ap tag r.1)) in
       ap (λ (b : Bool). cond b (Some (row d tag n s (k + 1))) (first (is_revision e g x) (rows d tag n s (k + 1) m))) f
       ∙ rows_miss (k + 1) m e g x (λ q. h (q.0, omega (arith, q.1), omega (arith, q.2), q.3))
 
@@ -73,7 +62,7 @@ module _ (d : ℕ) (tag : ℕ → ℕ) (n s : ℕ) where
       (λ (e : k + 1 ≡ g). ap (λ (b : Bool). cond b (Some (row d tag n s (k + 1))) (first (is_revision d g (tag g)) (rows d tag n s (k + 1) m))) (three_true d d (k + 1) g (tag (k + 1)) (tag g) refl e (ap tag e))
       ∙ ap (λ (x : ℕ). Some (row d tag n s x)) e)
       (λ (e : k + 1 ≡ g → ⊥). ap (λ (b : Bool). cond b (Some (row d tag n s (k + 1))) (first (is_revision d g (tag g)) (rows d tag n s (k + 1) m)))
-      (false_if _ (λ q. e (three_same d d (k + 1) g (tag (k + 1)) (tag g) q).1)) ∙ rows_hit (k + 1) m g (omega arith) (omega arith))
+      (false_from_ne_true _ (λ q. e (three_same d d (k + 1) g (tag (k + 1)) (tag g) q).1)) ∙ rows_hit (k + 1) m g (omega arith) (omega arith))
       (cases_eq (k + 1) g)
 
   one_slot : (g : ℕ) → ◌≡◌ {A = ℕ} (cond (has_slot (row d tag n s g)) 1 0) (cond (eqb g n) 1 0)

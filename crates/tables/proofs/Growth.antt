@@ -4,7 +4,7 @@ use mathlib.Core.Path.{fun_ext}
 use Rattle.std.proofs.lemmas.Bool.{eq-eqb, ne_eqb, cases_eq, cases_lt}
 use Rattle.revision.specs.Trees.{Content, Node, absent, inner, head, Tree, held, parent, level, Closed}
 use Rattle.revision.specs.Paths.{Path, last_node, up, touched, written, changes}
-use Rattle.tables.specs.declared.Standing.TheVariants.{Against}
+use Rattle.tables.specs.Paths.{Against}
 use Rattle.tables.specs.Paths.{stands, standing, Newest}
 use Rattle.tables.proofs.PathPlaces.{before, next_at, along_at, along_past, behind_more}
 use Rattle.revision.proofs.Writes.{level_held}

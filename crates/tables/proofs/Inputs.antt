@@ -1,13 +1,10 @@
 -- Tests of the input, in their order.
-use Rattle.std.proofs.Common.{◌≡◌, ℕ, Bool, true, false, cond, List, ◌∷◌, Some, Ok, ap, ◌∙◌}
+use Rattle.std.proofs.Common.{◌≡◌, ℕ, Bool, true, cond, List, ◌∷◌, Some, Ok, ap, ◌∙◌}
 use Rattle.decline.specs.Verdicts.{first_failed}
 use Rattle.revision.specs.declared.DocumentId.{DocumentId}
 use Rattle.revision.specs.declared.Revision.{Revision}
 use Rattle.revision.specs.Ids.{good_id, good_generation}
 use Rattle.revision.specs.Values.{IdRead, RevisionMade}
-
-pub test_failed : (b : Bool) (n : ℕ) (ts : List (Bool × ℕ)) → b ≡ false → first_failed ((b, n) ∷ ts) ≡ Some n
-test_failed b n ts e = ap (λ (x : Bool). cond x (first_failed ts) (Some n)) e
 
 pub test_passed : (b : Bool) (n : ℕ) (ts : List (Bool × ℕ)) → b ≡ true → first_failed ((b, n) ∷ ts) ≡ first_failed ts
 test_passed b n ts e = ap (λ (x : Bool). cond x (first_failed ts) (Some n)) e

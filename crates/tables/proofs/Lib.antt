@@ -1,7 +1,7 @@
 pub mod Inputs
+pub mod TagBytes
 pub mod Standings
 pub mod NewRows
-pub mod Slots
 pub mod PathPlaces
 pub mod PathRule
 pub mod Growth

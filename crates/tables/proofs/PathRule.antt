@@ -4,7 +4,7 @@ use Rattle.std.proofs.lemmas.Bool.{eq-eqb, ne_eqb, cases_eq, cases_lt}
 use Rattle.order.specs.Lists.{final}
 use Rattle.revision.specs.Trees.{Content, Node, absent, inner, head, Tree, held, parent, Compatible}
 use Rattle.revision.specs.Paths.{Path, path_tree, last_node, touched, at_last, Contradicted}
-use Rattle.tables.specs.declared.Standing.TheVariants.{Missing, Agrees, Against}
+use Rattle.tables.specs.Paths.{Missing, Agrees, Against}
 use Rattle.tables.specs.Paths.{stands, standing, Clash}
 use Rattle.tables.proofs.PathPlaces.{before, chain_at, chain_past, final_at, behind_last, behind_more, before_at}
 

@@ -5,7 +5,6 @@ use Rattle.std.proofs.lemmas.Bool.{and_from, and_parts, le-leb, leb-true, lt-ltb
 use Rattle.decline.specs.declared.Fault.{Fault}
 use Rattle.octets.specs.Packed.{unpacked}
 use Rattle.revision.specs.declared.DocumentId.{DocumentId}
-use Rattle.revision.specs.Ids.{IsId, good_tag}
 use Rattle.revision.specs.Trees as Trees
 use Rattle.revision.specs.Trees.{Tree, Closed}
 use Rattle.revision.specs.Paths as Paths
@@ -18,15 +17,18 @@ use Rattle.entries.specs.declared.Document.{Document}
 use Rattle.entries.specs.declared.HeldRevision.{HeldRevision}
 use Rattle.entries.specs.declared.Content.{Content}
 use Rattle.tables.specs.declared.Tables.{Tables}
+use Rattle.tables.specs.declared.path.Path as Code
+use Rattle.tables.specs.PathReads.{path_of}
 use Rattle.entries.specs.Searches.{place}
 use Rattle.entries.specs.Entries.{is_document, is_revision, tree_at, node_of, slotted, content_of, documents_in, logs_in, slot_at, no_revision}
 use Rattle.tables.specs.Tables.{documents_of, logs_of, record_of}
 use Rattle.tables.specs.Sound.{Sound, SoundDocuments, SoundRevisions, SoundLogs}
-use Rattle.tables.specs.Paths.{standing, Newest, placed, place_for, renewed, Keeps, SlotRoom, Fits, Extended, tree_in, entry_of, slot_of, Wrote}
+use Rattle.tables.specs.Paths.{standing, Newest, placed, place_for, renewed, Keeps, SlotRoom, Fits, Extended, tag_in, tree_in, entry_of, slot_of, Wrote}
 use Rattle.tables.specs.Room.{missing, newest_head, one_more, room_in}
 use Rattle.tables.specs.Calls.{PathReplied}
 use Rattle.entries.proofs.Searching.{found, not_found, not_both}
 use Rattle.tables.proofs.PathRule.{Suits, Tags, clash_contradicts, leaf_contradicts, not_contradicted}
+use Rattle.tables.proofs.PathTags.{path_tags}
 use Rattle.tables.proofs.Growth.{changes_not, changes_some, suits_gone, gone}
 use Rattle.tables.proofs.TableGrowth.{rs', cs', length_after, same_tree, tree_written}
 use Rattle.tables.proofs.TableGrowth as Table
@@ -58,8 +60,22 @@ keeps_suits rs cs d g x c = go (place (is_revision d g x) 0 rs) refl
     go None e k = subst (λ (q : Option HeldRevision). Suits (node_of cs q) c) (sym (not_found (is_revision d g x) rs e)) tt
     go (Some i) e k = subst (λ (q : Option HeldRevision). Suits (node_of cs q) c) (sym (found (is_revision d g x) no_revision rs i e).value) (at (get_or rs i no_revision).parent (get_or rs i no_revision).slot k)
 
-module _ (t : Tables) (id : DocumentId) (w : Path) (tag : ℕ → ℕ) (n : ℕ) (sound : Sound t) (good : IsId id.bytes) (named : w.doc ≡ unpacked id.bytes) (ts : Tags w tag n) (high : n ≤ 200)
-    (tags : (g : ℕ) → good_tag (tag g) ≡ true) where
+module _ (t : Tables) (p : Code.Path) (sound : Sound t) where
+  abbrev id : DocumentId
+  id = p.id
+
+  abbrev w : Path
+  w = path_of p
+
+  abbrev tag : ℕ → ℕ
+  tag = tag_in p
+
+  abbrev n : ℕ
+  n = p.generation
+
+  ts : Tags w tag n
+  ts = path_tags w p.tags.now n refl p.some
+
   abbrev ds : List Document
   ds = vec_items t.documents
 
@@ -80,7 +96,7 @@ module _ (t : Tables) (id : DocumentId) (w : Path) (tag : ℕ → ℕ) (n : ℕ)
 
   -- the document's tree is the one at its place
   here : (documents_of t).tree w.doc ≡ tree_in t d
-  here = ap (documents_of t).tree named ∙ known_tree ds rs cs o sound.revisions
+  here = known_tree ds rs cs o sound.revisions
 
   closed : Closed (tree_in t d)
   closed = sound.revisions.closed d
@@ -106,15 +122,12 @@ module _ (t : Tables) (id : DocumentId) (w : Path) (tag : ℕ → ℕ) (n : ℕ)
     one_head None = (λ l. omega arith, λ l. omega arith)
     one_head (Some v) = (λ l. omega (arith, sound.reserved.contents.1), λ l. tt)
 
-    doc_count : length ds + one_more (is_some (place (is_document w.doc) 0 ds)) ≡ length ds + one_more (is_some o)
-    doc_count = ap (λ (x : List ℕ). length ds + one_more (is_some (place (is_document x) 0 ds))) named
-
     pub fits_room : Fits t d (n - k) (slot_of t d tag k) → room_in t (path w) ≡ true
     fits_room f =
         let a = (one_document o refl).0 f.0 in
         let b = (one_head (slot_of t d tag k)).0 f.2 in
         let h = ap (λ (x : Bool). length cs + one_more x) slot_head in
-        and_from (leb (length ds + one_more (is_some (place (is_document w.doc) 0 ds))) 32) _ (le-leb _ 32 (omega (arith, doc_count)))
+        and_from (leb (length ds + one_more (is_some (place (is_document w.doc) 0 ds))) 32) _ (le-leb _ 32 (omega arith))
         (and_from (leb (length rs + missing ((documents_of t).tree w.doc) 1 w.tags) 1024) _ (le-leb _ 1024 (omega (arith, missing_here, f.1)))
         (and_from (leb (length cs + one_more (newest_head ((documents_of t).tree w.doc) 1 false w.tags)) 64) _ (le-leb _ 64 (omega arith)) (lt-ltb t.highest 4294967295 f.3)))
 
@@ -127,13 +140,13 @@ module _ (t : Tables) (id : DocumentId) (w : Path) (tag : ℕ → ℕ) (n : ℕ)
         let y = leb-true (length rs + missing ((documents_of t).tree w.doc) 1 w.tags) 1024 b.0 in
         let z = leb-true (length cs + one_more (newest_head ((documents_of t).tree w.doc) 1 false w.tags)) 64 c.0 in
         let h = ap (λ (x : Bool). length cs + one_more x) slot_head in
-        ((one_document o refl).1 (omega (arith, doc_count)), omega (arith, missing_here), (one_head (slot_of t d tag k)).1 (omega arith), ltb-true t.highest 4294967295 c.1)
+        ((one_document o refl).1 (omega arith), omega (arith, missing_here), (one_head (slot_of t d tag k)).1 (omega arith), ltb-true t.highest 4294967295 c.1)
 
     allowed : Suits (tree_in t d n (tag n)) w.content → Contradicted ((documents_of t).tree w.doc) w → ⊥
     allowed s = to_model (λ (x : Tree). Contradicted x w → ⊥) (not_contradicted w tag n ts (tree_in t d) nw.agrees s)
 
   -- declined
-  pub declined_reply : (e : Fault) (u : Tables) → Wrote t id d tag n w.content (Err e) u → PathReplied t w (Err e) u
+  pub declined_reply : (e : Fault) (u : Tables) → Wrote t d p (Err e) u → PathReplied t w (Err e) u
   declined_reply e u (same, inl (f, inl c)) = (34, f, F.contradicted (to_model (λ (x : Tree). Contradicted x w) (clash_contradicts w tag n ts (tree_in t d) c)), same)
   declined_reply e u (same, inl (f, inr c)) =
       (34, f, F.contradicted (to_model (λ (x : Tree). Contradicted x w) (leaf_contradicts w tag n ts (tree_in t d) (λ s. c.1 (suits_keeps rs cs d n (tag n) w.content s)))), same)
@@ -165,7 +178,7 @@ module _ (t : Tables) (id : DocumentId) (w : Path) (tag : ℕ → ℕ) (n : ℕ)
         subst (λ (y : List HeldRevision). SoundRevisions (length (vec_items u.documents)) y (vec_items u.contents)) (sym ex.revisions)
         (subst (λ (y : List Content). SoundRevisions (length (vec_items u.documents)) (Table.rs' (length ds) rs cs d tag n k x (entry_of t d tag k) (slot_of t d tag k) sound.revisions less beyond refl refl) y) (sym ex.contents)
         (Table.sound_after (length ds) rs cs d tag n k x (entry_of t d tag k) (slot_of t d tag k) sound.revisions less beyond refl refl
-        (length (vec_items u.documents)) size.0 size.1 high tags short w ts is nw))
+        (length (vec_items u.documents)) size.0 size.1 p.few p.tagged short w ts is nw))
 
     contents_few : (q : Option ℕ) → SlotRoom (length cs) q → length (placed cs q x) ≤ 64
     contents_few None l = omega (arith, length-append cs (x ∷ []))
@@ -173,7 +186,7 @@ module _ (t : Tables) (id : DocumentId) (w : Path) (tag : ℕ → ℕ) (n : ℕ)
 
     pub sound_after : Sound u
     sound_after = record {
-      documents = subst (λ (y : ℕ). SoundDocuments (vec_items u.documents) y) (sym ex.highest) (subst (λ (y : List Document). SoundDocuments y (t.highest + 1)) (sym ex.documents) (Docs.sound_after ds t.highest id o sound.documents refl good));
+      documents = subst (λ (y : ℕ). SoundDocuments (vec_items u.documents) y) (sym ex.highest) (subst (λ (y : List Document). SoundDocuments y (t.highest + 1)) (sym ex.documents) (Docs.sound_after ds t.highest id o sound.documents refl p.named));
       revisions = revisions_after;
       logs = subst (λ y. SoundLogs (vec_items y)) (sym ex.logs) sound.logs;
       reserved = record {
@@ -191,8 +204,8 @@ module _ (t : Tables) (id : DocumentId) (w : Path) (tag : ℕ → ℕ) (n : ℕ)
     docs_after =
         (λ i. documents_in (ex.documents i) (ex.revisions i) (ex.contents i) (ex.highest i))
         ∙ documents_put ds t.highest id o sound.documents refl rs (Table.rs' (length ds) rs cs d tag n k x (entry_of t d tag k) (slot_of t d tag k) sound.revisions less beyond refl refl) cs
-        (Table.cs' (length ds) rs cs d tag n k x (entry_of t d tag k) (slot_of t d tag k) sound.revisions less beyond refl refl) w named sound.revisions
-        (tree_written (length ds) rs cs d tag n k x (entry_of t d tag k) (slot_of t d tag k) sound.revisions less beyond refl refl (length (vec_items u.documents)) size.0 size.1 high tags short w ts is nw)
+        (Table.cs' (length ds) rs cs d tag n k x (entry_of t d tag k) (slot_of t d tag k) sound.revisions less beyond refl refl) w refl sound.revisions
+        (tree_written (length ds) rs cs d tag n k x (entry_of t d tag k) (slot_of t d tag k) sound.revisions less beyond refl refl (length (vec_items u.documents)) size.0 size.1 p.few p.tagged short w ts is nw)
         (same_tree (length ds) rs cs d tag n k x (entry_of t d tag k) (slot_of t d tag k) sound.revisions less beyond refl refl)
 
     -- the heads afterwards are at most 64
@@ -213,7 +226,7 @@ module _ (t : Tables) (id : DocumentId) (w : Path) (tag : ℕ → ℕ) (n : ℕ)
         )
 
   -- every way
-  pub path_reply : (r : Result ℕ Fault) (u : Tables) → Wrote t id d tag n w.content r u → Sound u × PathReplied t w r u
+  pub path_reply : (r : Result ℕ Fault) (u : Tables) → Wrote t d p r u → Sound u × PathReplied t w r u
   path_reply (Err e) u h = (subst (λ (y : Tables). Sound y) (sym h.0) sound, declined_reply e u h)
   path_reply (Ok a) u (inl (z, nw, kp, same)) = (subst (λ (y : Tables). Sound y) (sym same) sound, known_reply a u z nw kp same)
   path_reply (Ok a) u (inr (one, (k, l, nw, fit, (x, is, short, ex)))) = (sound_after k l nw fit x is short u ex, added_reply k l nw fit x is short u ex a one)

@@ -3,7 +3,8 @@ use Rattle.std.proofs.Common.{◌≡◌, ℕ, suc, ◌+◌, ◌-◌, ◌<◌, �
 use mathlib.Core.Path.{fun_ext}
 use Rattle.std.specs.Option.{option_or, option_map}
 use Rattle.std.proofs.lemmas.List.{get_or-set_same, get_or-set_other, length-set, length-append, get_or_append_left, get_or-append_right, get_or_default, get_or_at}
-use Rattle.std.proofs.lemmas.Bool.{eq-eqb, ne_eqb, cases_eq, cases_lt, and_from, le-leb}
+use Rattle.std.proofs.lemmas.List.Folds.{find-append, find_past}
+use Rattle.std.proofs.lemmas.Bool.{false_from_ne_true, eq-eqb, ne_eqb, cases_eq, cases_lt, and_from, le-leb}
 use Rattle.revision.specs.Ids.{good_generation, good_tag}
 use Rattle.revision.specs.Paths.{Path, written}
 use Rattle.revision.specs.Trees as Trees
@@ -14,11 +15,11 @@ use Rattle.entries.specs.Searches.{first, place, Once, Every, count}
 use Rattle.entries.specs.Entries.{is_revision, tree_at, node_of, slotted, content_of, no_content, no_revision, slot_at}
 use Rattle.tables.specs.Sound.{has_slot, SoundRevisions}
 use Rattle.tables.specs.Paths.{without_slot, stripped, slot_for, placed, row, rows, standing, Newest}
-use Rattle.entries.proofs.Searching.{found, not_found, not_both, false_if}
+use Rattle.entries.proofs.Searching.{found, not_found, not_both}
 use Rattle.entries.proofs.Lookups.{first_element, none_passes}
 use Rattle.tables.proofs.PathRule.{retired, Tags}
 use Rattle.tables.proofs.Growth.{Grown, grown_written, grown_closed, grown_roots}
-use Rattle.tables.proofs.Entries.{three_same, three_true, first_append, set_other, set_only, count_append, count_set, rows_length, rows_at, rows_miss, rows_hit, rows_slots}
+use Rattle.tables.proofs.Entries.{three_same, three_true, set_only, count_append, count_set, rows_length, rows_at, rows_miss, rows_hit, rows_slots}
 
 or_other_none : {Y : Type 0} (o : Option Y) → option_or o None ≡ o
 or_other_none None = refl
@@ -100,12 +101,12 @@ module _ (m : ℕ) (rs : List HeldRevision) (cs : List Content) (d : ℕ) (tag :
       go None q = refl
       go (Some i) q =
           let r = get_or rs i no_revision in
-          let b : is_revision e g y (get_or rs i no_revision) ≡ false = false_if _ (λ t. let u = three_same r.document e r.generation g r.tag y t in
+          let b : is_revision e g y (get_or rs i no_revision) ≡ false = false_from_ne_true _ (λ t. let u = three_same r.document e r.generation g r.tag y t in
           let v = three_same r.document d r.generation k r.tag (tag k) ((ancestor i q).1 no_revision) in f (sym u.0 ∙ v.0, sym u.1 ∙ v.1, sym u.2 ∙ v.2)) in
-          set_other (is_revision e g y) no_revision rs i (without_slot (get_or rs i no_revision)) b b
+          find_past (is_revision e g y) rs i (without_slot (get_or rs i no_revision)) no_revision b b
 
   entry_ancestor : first (is_revision d k (tag k)) rs' ≡ option_map without_slot (first (is_revision d k (tag k)) rs)
-  entry_ancestor = first_append (is_revision d k (tag k)) (stripped rs at) (rows d tag n (slot_for cs slot) k (n - k))
+  entry_ancestor = find-append (is_revision d k (tag k)) (stripped rs at) (rows d tag n (slot_for cs slot) k (n - k))
       ∙ (ap (option_or (first (is_revision d k (tag k)) (stripped rs at))) (rows_miss d tag n (slot_for cs slot) k (n - k) d k (tag k) (λ q. omega (arith, q.1)))
       ∙ (or_other_none (first (is_revision d k (tag k)) (stripped rs at)) ∙ go at refl))
     where
@@ -114,16 +115,16 @@ module _ (m : ℕ) (rs : List HeldRevision) (cs : List Content) (d : ℕ) (tag :
       go (Some i) q =
           let f = found (is_revision d k (tag k)) no_revision rs i (pe ∙ q) in
           set_only (is_revision d k (tag k)) no_revision rs i (without_slot (get_or rs i no_revision)) f.within f.passes
-          (λ j l. false_if _ (λ t. let e : j ≡ i = sound.once d k (tag k) j i no_revision (omega (arith, f.within)) f.within t f.passes in omega arith))
+          (λ j l. false_from_ne_true _ (λ t. let e : j ≡ i = sound.once d k (tag k) j i no_revision (omega (arith, f.within)) f.within t f.passes in omega arith))
           ∙ sym (ap (option_map without_slot) f.value)
 
   entry_new : (g : ℕ) → k < g → g ≤ n → first (is_revision d g (tag g)) rs' ≡ Some (row d tag n (slot_for cs slot) g)
-  entry_new g l u = first_append (is_revision d g (tag g)) (stripped rs at) (rows d tag n (slot_for cs slot) k (n - k))
+  entry_new g l u = find-append (is_revision d g (tag g)) (stripped rs at) (rows d tag n (slot_for cs slot) k (n - k))
       ∙ (ap (λ (o : Option HeldRevision). option_or o (first (is_revision d g (tag g)) (rows d tag n (slot_for cs slot) k (n - k)))) (strip_other d g (tag g) (λ q. omega (arith, q.1)) ∙ no_old g l u)
       ∙ rows_hit d tag n (slot_for cs slot) k (n - k) g l (omega arith))
 
   entry_other : (e g y : ℕ) → ((e ≡ d) × (k ≤ g) × (g ≤ n) × (y ≡ tag g) → ⊥) → first (is_revision e g y) rs' ≡ first (is_revision e g y) rs
-  entry_other e g y f = first_append (is_revision e g y) (stripped rs at) (rows d tag n (slot_for cs slot) k (n - k))
+  entry_other e g y f = find-append (is_revision e g y) (stripped rs at) (rows d tag n (slot_for cs slot) k (n - k))
       ∙ (ap (option_or (first (is_revision e g y) (stripped rs at))) (rows_miss d tag n (slot_for cs slot) k (n - k) e g y (λ q. f (q.0, omega (arith, q.1), omega (arith, q.2), q.3)))
       ∙ (or_other_none (first (is_revision e g y) (stripped rs at)) ∙ strip_other e g y (λ q. f (q.0, omega (arith, q.1), omega (arith, q.1), q.2 ∙ ap tag (sym q.1)))))
 

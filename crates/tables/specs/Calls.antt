@@ -1,8 +1,7 @@
 -- What the calls on the tables promise, in the words of the model.
-use Rattle.std.specs.Prelude.{◌≡◌, ℕ, ◌*◌, ◌≤◌, true, false, cond, ◌&&◌, ◌⊎◌, List, [], length, Some, None, Ok, Err, Result, ◌==◌}
+use Rattle.std.specs.Prelude.{◌≡◌, ℕ, true, cond, ◌⊎◌, [], Some, None, Ok, Err, Result}
 use Rattle.decline.specs.declared.Fault.{Fault}
 use Rattle.decline.specs.Faults.{bare}
-use Rattle.revision.specs.Ids.{good_generation}
 use Rattle.revision.specs.Paths.{Path}
 use Rattle.checkpoint.specs.Logs.{enter}
 use Rattle.peer.specs.Records.{Record, put}
@@ -42,8 +41,3 @@ Writes f mean w t (Err e) u = (n : ℕ) × (e ≡ bare n) × Refused f t n × (u
 abbrev pub PathReplied : Tables → Path → Result ℕ Fault → Tables → Type 0
 PathReplied t w (Ok a) u = PathVerdict (peer_on t) w None × (a ≡ path_answer (peer_on t) w) × (record_of u ≡ applied (path w) (record_of t))
 PathReplied t w (Err e) u = (n : ℕ) × (e ≡ bare n) × PathVerdict (peer_on t) w (Some n) × (u ≡ t)
-
--- the length of a path whose tags are 8 bytes each: declined 12 for a bad generation, or for another number of bytes
-abbrev pub PathLength : ℕ → List ℕ → Result ℕ Fault → Type 0
-PathLength g bs (Ok n) = ((good_generation g && length bs == 8 * g) ≡ true) × (n ≡ g) × (1 ≤ n) × (n ≤ 200) × (length bs ≡ 8 * n)
-PathLength g bs (Err e) = ((good_generation g && length bs == 8 * g) ≡ false) × (e ≡ bare 12)

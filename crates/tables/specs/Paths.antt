@@ -1,25 +1,27 @@
 -- How a path is written to the tables.
-use Rattle.std.specs.Prelude.{◌≡◌, ℕ, ◌+◌, ◌-◌, ◌*◌, ◌<◌, ◌≤◌, cond, ◌⊎◌, List, [], ◌∷◌, ◌++◌, map, length, take, drop, Some, None, Ok, Err, vec_items, vec_capacity, Option, Result, MatchOption, ◌==◌, ◌≢◌, nat_lt, slice_index_or, slice_set}
+use Rattle.std.specs.Prelude.{◌≡◌, ℕ, ◌+◌, ◌-◌, ◌<◌, ◌≤◌, cond, ◌⊎◌, List, [], ◌∷◌, ◌++◌, map, length, Some, None, Ok, Err, vec_items, vec_capacity, Option, Result, MatchOption, ◌==◌, ◌≢◌, nat_lt, slice_index_or, slice_set}
 use Rattle.std.specs.List.{range_with_len}
 use Rattle.decline.specs.declared.Fault.{Fault}
 use Rattle.decline.specs.Faults.{bare}
 use Rattle.revision.specs.declared.DocumentId.{DocumentId}
-use Rattle.octets.specs.BigEndian.{number}
 use Rattle.revision.specs.Trees as Trees
 use Rattle.revision.specs.Trees.{Node, absent, inner, head, Tree}
 use Rattle.entries.specs.declared.Document.{Document}
 use Rattle.entries.specs.declared.HeldRevision.{HeldRevision}
 use Rattle.entries.specs.declared.Content.{Content}
 use Rattle.tables.specs.declared.NewestHeld.{NewestHeld}
-use Rattle.tables.specs.declared.Standing.{Standing}
 use Rattle.tables.specs.declared.Tables.{Tables}
+use Rattle.tables.specs.declared.path.Path.{Path}
+use Rattle.tables.specs.Tags.{tag_at}
+use Rattle.tables.specs.PathReads.{path_of}
 use Rattle.entries.specs.Searches.{place}
 use Rattle.entries.specs.Entries.{content_of, no_content, no_revision, slot_at, tree_at, is_revision}
-use Rattle.tables.specs.declared.Standing.TheVariants.{Missing, Agrees, Against}
 
--- the tag of generation g of a path, whose bytes have generation 1 first; 0 at generation 0
-unfoldable pub tag_at : List ℕ → ℕ → ℕ
-tag_at bs g = cond (g == 0) 0 (number (take 8 (drop (8 * (g - 1)) bs)))
+-- how a revision of a path stands to the revisions that are held: it is missing, held under the path's parent, or under another
+pub data Standing : Type 0 where
+  Missing : Standing
+  Agrees : Standing
+  Against : Standing
 
 -- how a node stands to a path that has it under a parent
 abbrev pub stands : Node → ℕ → Standing
@@ -68,8 +70,8 @@ row d tag n s g = record { document = d; generation = g; tag = tag g; parent = t
 abbrev pub rows : ℕ → (ℕ → ℕ) → ℕ → ℕ → ℕ → ℕ → List HeldRevision
 rows d tag n s k m = map (row d tag n s) (range_with_len (k + 1) m)
 
--- the documents with a new entry at a place, or behind all
-abbrev pub renewed : List Document → ℕ → Document → List Document
+-- a table with a new entry at a place, or behind all
+abbrev pub renewed : {X : Type 0} → List X → ℕ → X → List X
 renewed ds i d = cond (nat_lt i (length ds)) (slice_set ds i d) (ds ++ (d ∷ []))
 
 -- a slot keeps a content; a revision without one keeps nothing else
@@ -116,19 +118,41 @@ slot_of t d tag k = slot_at (vec_items t.revisions) (entry_of t d tag k)
 abbrev pub Inside : Tables → Option ℕ → Type 0
 Inside t o = MatchOption o Unit (λ i. i < length (vec_items t.revisions))
 
--- the newest generation of a path that is held, or 0, with the place of its entry
-pub record NewestAt (t : Tables) (d : ℕ) (tag : ℕ → ℕ) (n : ℕ) (h : NewestHeld) : Type 0 where
-  pub newest : Newest (standing (tree_in t d) tag) n h.generation
-  pub entry : h.place ≡ entry_of t d tag h.generation
-  pub within : Inside t h.place
+-- the tag of a path's generation
+abbrev pub tag_in : Path → ℕ → ℕ
+tag_in p = tag_at p.tags.now
 
--- What a path write of good input does to the tables. It is declined 34 if a generation is held under another parent, or the last one is a head with other
--- content; it changes nothing if the last one is held; else it is declined 35 for want of room, or written.
-abbrev pub Wrote : Tables → DocumentId → ℕ → (ℕ → ℕ) → ℕ → Trees.Content → Result ℕ Fault → Tables → Type 0
-Wrote t id d tag n c (Ok a) u =
-    ((a ≡ 0) × Newest (standing (tree_in t d) tag) n n × Keeps (vec_items t.contents) (slot_of t d tag n) c × (u ≡ t)) ⊎
-    ((a ≡ 1) × ((k : ℕ) × (k < n) × Newest (standing (tree_in t d) tag) n k × Fits t d (n - k) (slot_of t d tag k) ×
-    ((x : Content) × (content_of x ≡ c) × (x.length ≤ 96) × Extended t id d tag n k (entry_of t d tag k) (slot_of t d tag k) x u)))
-Wrote t id d tag n c (Err e) u = (u ≡ t) × (
-    ((e ≡ bare 34) × (Clash (standing (tree_in t d) tag) n ⊎ (Newest (standing (tree_in t d) tag) n n × (Keeps (vec_items t.contents) (slot_of t d tag n) c → ⊥)))) ⊎
-    ((e ≡ bare 35) × ((k : ℕ) × (k < n) × Newest (standing (tree_in t d) tag) n k × (Fits t d (n - k) (slot_of t d tag k) → ⊥))))
+-- looking for generation g of a path: no place where it is missing, its entry's where it is held; declined 34 where it is held under another parent
+abbrev pub LookedUp : Tables → ℕ → Path → ℕ → Result (Option ℕ) Fault → Type 0
+LookedUp t d p g (Ok None) = standing (tree_in t d) (tag_in p) g ≡ Missing
+LookedUp t d p g (Ok (Some i)) = (standing (tree_in t d) (tag_in p) g ≡ Agrees) × (entry_of t d (tag_in p) g ≡ Some i) × (i < length (vec_items t.revisions))
+LookedUp t d p g (Err e) = (standing (tree_in t d) (tag_in p) g ≡ Against) × (e ≡ bare 34)
+
+-- of the first n generations of a path the newest that is held, or 0, with the place of its entry and its slot
+pub record NewestAt (t : Tables) (d : ℕ) (p : Path) (n : ℕ) (h : NewestHeld) : Type 0 where
+  pub newest : Newest (standing (tree_in t d) (tag_in p)) n h.generation
+  pub entry : h.place ≡ entry_of t d (tag_in p) h.generation
+  pub slot : h.slot ≡ slot_of t d (tag_in p) h.generation
+  pub within : Inside t h.place
+  pub there : MatchOption h.slot Unit (λ s. s < length (vec_items t.contents))
+
+-- reading the newest generation of a path that is held; declined 34 where one is held under another parent
+abbrev pub NewestRead : Tables → ℕ → Path → Result NewestHeld Fault → Type 0
+NewestRead t d p (Ok h) = NewestAt t d p p.generation h
+NewestRead t d p (Err e) = Clash (standing (tree_in t d) (tag_in p)) p.generation × (e ≡ bare 34)
+
+-- the tables with a path after its newest held generation
+abbrev pub Grown : Tables → ℕ → Path → NewestHeld → Tables → Type 0
+Grown t d p h u = (x : Content) × (content_of x ≡ (path_of p).content) × (x.length ≤ 96) × Extended t p.id d (tag_in p) p.generation h.generation h.place h.slot x u
+
+-- What a path write does to the tables. It is declined 34 if a generation is held under another parent, or the last one is a head with other content; it
+-- changes nothing if the last one is held; else it is declined 35 for want of room, or written.
+abbrev pub Wrote : Tables → ℕ → Path → Result ℕ Fault → Tables → Type 0
+Wrote t d p (Ok a) u =
+    ((a ≡ 0) × Newest (standing (tree_in t d) (tag_in p)) p.generation p.generation × Keeps (vec_items t.contents) (slot_of t d (tag_in p) p.generation) (path_of p).content × (u ≡ t)) ⊎
+    ((a ≡ 1) × ((k : ℕ) × (k < p.generation) × Newest (standing (tree_in t d) (tag_in p)) p.generation k × Fits t d (p.generation - k) (slot_of t d (tag_in p) k) ×
+    ((x : Content) × (content_of x ≡ (path_of p).content) × (x.length ≤ 96) × Extended t p.id d (tag_in p) p.generation k (entry_of t d (tag_in p) k) (slot_of t d (tag_in p) k) x u)))
+Wrote t d p (Err e) u = (u ≡ t) × (
+    ((e ≡ bare 34) × (Clash (standing (tree_in t d) (tag_in p)) p.generation ⊎
+    (Newest (standing (tree_in t d) (tag_in p)) p.generation p.generation × (Keeps (vec_items t.contents) (slot_of t d (tag_in p) p.generation) (path_of p).content → ⊥)))) ⊎
+    ((e ≡ bare 35) × ((k : ℕ) × (k < p.generation) × Newest (standing (tree_in t d) (tag_in p)) p.generation k × (Fits t d (p.generation - k) (slot_of t d (tag_in p) k) → ⊥))))

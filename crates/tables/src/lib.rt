@@ -2,30 +2,29 @@
 // taken once, when they are made.
 #![tactic(auto)]
 
-ghost use Rattle.std.specs.Prelude.{◌≡◌, ◌+◌, ◌-◌, ◌*◌, ◌<◌, ◌≤◌, ◌++◌, length, IfSome, IfOk, if◌then◌else◌, Some, None, Ok, vec_len, vec_capacity, Decides, MatchOption, nat_eq, slice_index_or};
+ghost use Rattle.std.specs.Prelude.{◌≡◌, ◌+◌, ◌-◌, ◌*◌, ◌<◌, ◌≤◌, ◌++◌, length, IfSome, IfOk, Some, None, Ok, vec_len, vec_capacity, Decides, MatchOption, slice_index_or};
 ghost use Rattle.octets.specs.Packed.{unpacked};
-ghost use Rattle.revision.specs.Values.{mark_number};
 ghost use Rattle.peer.specs.Records.{blank};
-ghost use Rattle.octets.specs.BigEndian.{eights};
-ghost use Rattle.revision.specs.Ids.{IsId};
 ghost use Rattle.peer.specs.Peers.{path};
 ghost use Rattle.peer.specs.Functions.{Function, path_given};
 ghost use Rattle.peer.specs.Replies.{plain};
 ghost use Rattle.entries.specs.Searches.{place};
 ghost use Rattle.tables.specs.Tables.{record_of};
-ghost use Rattle.entries.specs.Entries.{is_document, content_of, content, slot_at};
+ghost use Rattle.entries.specs.Entries.{is_document, slot_at};
+ghost use Rattle.tables.specs.Tags.{tag_at};
+ghost use Rattle.tables.specs.PathReads.{path_of};
 ghost use Rattle.tables.specs.Sound.{Sound, Reserved};
-ghost use Rattle.tables.specs.Paths.{tag_at, standing, Clash, stripped, slot_for, placed, rows, renewed, Keeps, Fits, Extended, Wrote, place_for, tree_in, entry_of, Inside, NewestAt};
+ghost use Rattle.tables.specs.Paths.{LookedUp, NewestRead, stripped, slot_for, placed, rows, renewed, Keeps, Fits, Grown, Wrote, place_for};
 ghost use Rattle.std.specs.Borrow.{sem, follows};
 ghost use Rattle.std.specs.Vec.{with_item};
 ghost use Rattle.tables.specs.contracts.Tables.{the_row};
 ghost use Rattle.entries.specs.contracts.HeldRevision.{the_row as revision-row};
-ghost use Rattle.tables.specs.Calls.{PathLength, PathReplied, Writes};
+ghost use Rattle.tables.specs.Calls.{PathReplied, Writes};
 
 use decline::{Decline, Fault};
 use entries::{Content, Document, HeldRevision, KeyedLog, RevisionOf, place_in};
-use octets::number_of;
-use revision::{DocumentId, Mark, Revision};
+use path::Path;
+use revision::{DocumentId, Revision};
 use std::alloc::{AllocError, Global};
 
 // How many documents, revisions, heads and logs there is room for.
@@ -38,6 +37,7 @@ const HEADS: usize = 64;
 const LOGS: usize = 8;
 
 // The tables. Whoever changes them must keep them sound: every call asks for that.
+// Kept: by a rule of the project the tables stand in a record without an invariant in its type; its calls keep `Sound`.
 #[derive(Drop)]
 pub struct Tables {
     pub documents: Vec<Document>,
@@ -47,65 +47,64 @@ pub struct Tables {
     pub highest: u32,
 }
 
-// How a revision of a path stands to the revisions that are held: it is missing, held under the path's parent, or under
-// another.
-#[derive(Clone, Copy)]
-enum Standing {
-    Missing,
-    Agrees,
-    Against,
-}
-
-// What the tables know of a generation of a path: how it stands, and the place of its entry.
-#[derive(Clone, Copy)]
-struct Known {
-    standing: Standing,
-    place: Option<usize>,
-}
-
-// The newest generation of a path that is held, and the place of its entry; generation 0 where none is.
+// The newest generation of a path that is held, the place of its entry, and its slot if it is a head; generation 0,
+// with neither, where none is held.
+// Kept: what is missing is counted from this generation; an `Option` of all three would be unpacked at every use.
 #[derive(Clone, Copy)]
 struct NewestHeld {
-    generation: usize,
+    generation: u8,
     place: Option<usize>,
+    slot: Option<u8>,
 }
 
 mod logs;
+mod path;
 
-// The tag of generation g of a path; 0 where g is 0.
-fn tag_at(tags: &[u8], g: usize) -> u64
-    requires { 8 * g ≤ length tags.now }
-    ensures { result ≡ tag_at tags.now g }
+// An entry stands at its place, or behind all.
+fn put_at<T: Copy>(entries: &mut Vec<T>, at: usize, entry: T)
+    requires known { at ≤ vec_len entries.old }
+    requires room { at < vec_capacity entries.old }
+    ensures entries { entries.new.items ≡ renewed entries.old.items at entry }
+    ensures capacity { vec_capacity entries.new ≡ vec_capacity entries.old }
 {
-    if g == 0 {
-        0
+    if at < entries.len() {
+        entries[at] = entry;
     } else {
-        number_of(&tags[8 * (g - 1)..8 * g])
+        entries.push_reserved(entry);
     }
 }
 
-// The length of a path; declined 12 for a bad generation, or where the tags are not 8 bytes for each generation.
-fn path_length(generation: u8, tags: &[u8]) -> Result<usize, Fault>
-    ensures { PathLength generation tags.now result }
+// Lays a content into a slot, or into a new one, and answers which.
+fn place_content(contents: &mut Vec<Content>, slot: Option<u8>, content: Content) -> u8
+    requires room { MatchOption slot (length contents.old.items < 64) (λ s. s < length contents.old.items) }
+    requires few { length contents.old.items ≤ 64 }
+    requires capacity { 64 ≤ vec_capacity contents.old }
+    ensures slot { result ≡ slot_for contents.old.items slot }
+    ensures contents { contents.new.items ≡ placed contents.old.items slot content }
+    ensures capacity { vec_capacity contents.new ≡ vec_capacity contents.old }
 {
-    if generation == 0 {
-        return Err(Fault::from(Decline::Revision));
-    }
-    if generation > 200 {
-        return Err(Fault::from(Decline::Revision));
-    }
-    let n = generation as usize;
-    if tags.len() != 8 * n {
-        return Err(Fault::from(Decline::Revision));
-    }
-    Ok(n)
+    let s = slot.unwrap_or(contents.len() as u8);
+    put_at(contents, s as usize, content);
+    s
 }
 
-// The slot of generation g of a path of n generations, whose last has one.
-fn slot_of(g: usize, n: usize, slot: u8) -> Option<u8>
-    ensures { result ≡ (if nat_eq g n then Some slot else None) }
+// Adds the entries of the generations of a path after generation k; the last has a slot.
+fn add_missing(revisions: &mut Vec<HeldRevision>, document: u8, path: &Path, k: u8, slot: u8)
+    requires capacity { 1024 ≤ vec_capacity revisions.old }
+    requires order { k ≤ path.now.generation }
+    requires room { vec_len revisions.old + (path.now.generation - k) ≤ 1024 }
+    ensures revisions { revisions.new.items ≡ revisions.old.items ++ rows document (tag_at path.now.tags.now) path.now.generation slot k (path.now.generation - k) }
+    ensures capacity { vec_capacity revisions.new ≡ vec_capacity revisions.old }
 {
-    if g == n { Some(slot) } else { None }
+    for generation in k + 1..=path.generation {
+        revisions.push_reserved(HeldRevision {
+            tag: path.tag(generation),
+            parent: path.tag(generation - 1),
+            document,
+            generation,
+            slot: (generation == path.generation).then_some(slot),
+        });
+    }
 }
 
 impl Tables {
@@ -136,73 +135,54 @@ impl Tables {
         size_of::<Tables>() + entries + kept
     }
 
-    // How generation g of a path stands to the document's revisions, and the place of its entry.
-    fn look_up(&self, document: u8, tags: &[u8], g: usize) -> Known
-        requires low { 0 < g }
-        requires high { g ≤ 200 }
-        requires within { 8 * g ≤ length tags.now }
-        ensures standing { result.standing ≡ standing (tree_in self.now document) (tag_at tags.now) g }
-        ensures entry { result.place ≡ entry_of self.now document (tag_at tags.now) g }
-        ensures within { Inside self.now result.place }
+    // The place of the entry of a path's generation, if that is held; declined 34 where it is held under another parent.
+    fn look_up(&self, document: u8, path: &Path, generation: u8) -> Result<Option<usize>, Fault>
+        requires low { 0 < generation }
+        requires high { generation ≤ path.now.generation }
+        ensures { LookedUp self.now document path.now generation result }
     {
         let revisions = self.revisions.as_slice();
         let revision = RevisionOf {
             document,
             revision: Revision {
-                generation: g as u8,
-                tag: tag_at(tags, g),
+                generation,
+                tag: path.tag(generation),
             },
         };
-        match place_in(revisions, &revision) {
-            None => Known {
-                standing: Standing::Missing,
-                place: None,
-            },
-            Some(i) => {
-                if revisions[i].parent == tag_at(tags, g - 1) {
-                    Known {
-                        standing: Standing::Agrees,
-                        place: Some(i),
-                    }
-                } else {
-                    Known {
-                        standing: Standing::Against,
-                        place: Some(i),
-                    }
-                }
-            }
+        let Some(i) = place_in(revisions, &revision) else {
+            return Ok(None);
+        };
+        if revisions[i].parent != path.tag(generation - 1) {
+            return Err(Decline::Contradiction.into());
         }
+        Ok(Some(i))
     }
 
-    // The newest generation of a path that is held, or 0, and the place of its entry; none where one is held under another
-    // parent. The table is gone through once for each generation.
-    fn newest_held(&self, document: u8, tags: &[u8], n: usize) -> Option<NewestHeld>
-        requires sound { Sound self.now }
-        requires high { n ≤ 200 }
-        requires within { 8 * n ≤ length tags.now }
-        ensures { MatchOption result (Clash (standing (tree_in self.now document) (tag_at tags.now)) n) (NewestAt self.now document (tag_at tags.now) n) }
+    // The newest generation of a path that is held; declined 34 where one is held under another parent. The table is gone
+    // through once for each generation.
+    fn newest_held(&self, document: u8, path: &Path) -> Result<NewestHeld, Fault>
+        requires { Sound self.now }
+        ensures { NewestRead self.now document path.now result }
     {
         let mut newest = NewestHeld {
             generation: 0,
             place: None,
+            slot: None,
         };
-        for i in 0..n {
-            let known = self.look_up(document, tags, i + 1);
-            match known.standing {
-                Standing::Missing => {}
-                Standing::Agrees => {
-                    newest = NewestHeld {
-                        generation: i + 1,
-                        place: known.place,
-                    }
-                }
-                Standing::Against => return None,
+        for generation in 1..=path.generation {
+            if let Some(i) = self.look_up(document, path, generation)? {
+                newest = NewestHeld {
+                    generation,
+                    place: Some(i),
+                    slot: self.slot_at(Some(i)),
+                };
             }
         }
-        Some(newest)
+        Ok(newest)
     }
 
     // An entry of the revisions, lent to be changed.
+    // Kept: by a rule of the project an entry is changed where it stands, lent through the record that has its table.
     fn revision_mut(&mut self, i: usize) -> &mut HeldRevision
         requires { i < vec_len self.old.revisions }
         ensures* follows { sem 𝓛 (follows the_row revision-row self.entry.ghost_name result.ghost_name (λ w. record { documents = self.old.documents; revisions = with_item self.old.revisions i w; contents = self.old.contents; logs = self.old.logs; highest = self.old.highest })) }
@@ -211,233 +191,97 @@ impl Tables {
         &mut self.revisions[i]
     }
 
-    // Takes the slot from an entry, if one is named.
-    fn strip(&mut self, at: Option<usize>)
-        requires { IfSome at (λ i. i < vec_len self.old.revisions) }
-        ensures revisions { self.new.revisions.items ≡ stripped self.old.revisions.items at }
-        ensures many { vec_len self.new.revisions ≡ vec_len self.old.revisions }
-        ensures capacity { vec_capacity self.new.revisions ≡ vec_capacity self.old.revisions }
-        ensures documents { self.new.documents ≡ self.old.documents }
-        ensures contents { self.new.contents ≡ self.old.contents }
-        ensures logs { self.new.logs ≡ self.old.logs }
-        ensures highest { self.new.highest ≡ self.old.highest }
-    {
-        if let Some(i) = at {
-            self.revision_mut(i).slot = None;
-        }
-    }
-
     // The slot of the entry at a place, if it is a head's; none where there is no such place.
     pub fn slot_at(&self, at: Option<usize>) -> Option<u8>
         requires { Sound self.now }
         ensures value { result ≡ slot_at self.now.revisions.items at }
         ensures within { IfSome result (λ s. s < length self.now.contents.items) }
     {
-        let revisions = self.revisions.as_slice();
-        match at {
-            None => None,
-            Some(i) => {
-                if i < revisions.len() {
-                    revisions[i].slot
-                } else {
-                    None
-                }
-            }
-        }
+        self.revisions.get(at?)?.slot
     }
 
-    // Lays a content into a slot, or into a new one, and answers which.
-    fn place_content(&mut self, slot: Option<u8>, content: Content) -> u8
-        requires room { MatchOption slot (length self.old.contents.items < 64) (λ s. s < length self.old.contents.items) }
-        requires capacity { 64 ≤ vec_capacity self.old.contents }
-        ensures slot { result ≡ slot_for self.old.contents.items slot }
-        ensures contents { self.new.contents.items ≡ placed self.old.contents.items slot content }
-        ensures capacity { vec_capacity self.new.contents ≡ vec_capacity self.old.contents }
-        ensures documents { self.new.documents ≡ self.old.documents }
-        ensures revisions { self.new.revisions ≡ self.old.revisions }
-        ensures logs { self.new.logs ≡ self.old.logs }
-        ensures highest { self.new.highest ≡ self.old.highest }
-    {
-        match slot {
-            Some(s) => {
-                self.contents[s as usize] = content;
-                s
-            }
-            None => {
-                let s = self.contents.len() as u8;
-                self.contents.push_reserved(content);
-                s
-            }
-        }
-    }
-
-    // Adds the entries of the generations of a path after generation k; the last has a slot.
-    fn add_missing(&mut self, document: u8, tags: &[u8], k: usize, n: usize, slot: u8)
-        requires capacity { 1024 ≤ vec_capacity self.old.revisions }
-        requires order { k ≤ n }
-        requires high { n ≤ 200 }
-        requires within { 8 * n ≤ length tags.now }
-        requires room { vec_len self.old.revisions + (n - k) ≤ 1024 }
-        ensures revisions { self.new.revisions.items ≡ self.old.revisions.items ++ rows document (tag_at tags.now) n slot k (n - k) }
-        ensures capacity { vec_capacity self.new.revisions ≡ vec_capacity self.old.revisions }
-        ensures documents { self.new.documents ≡ self.old.documents }
-        ensures contents { self.new.contents ≡ self.old.contents }
-        ensures logs { self.new.logs ≡ self.old.logs }
-        ensures highest { self.new.highest ≡ self.old.highest }
-    {
-        for g in k..n {
-            let parent = tag_at(tags, g);
-            let tag = tag_at(tags, g + 1);
-            let slot = slot_of(g + 1, n, slot);
-            self.revisions.push_reserved(HeldRevision {
-                document,
-                generation: (g + 1) as u8,
-                tag,
-                parent,
-                slot,
-            });
-        }
-    }
-
-    // Gives a document the next change number; it is known at its place, or new.
-    fn renew(&mut self, id: DocumentId, at: usize)
-        requires capacity { 32 ≤ vec_capacity self.old.documents }
-        requires room { at < 32 }
-        requires known { at ≤ vec_len self.old.documents }
-        requires number { self.old.highest < 4294967295 }
-        ensures documents { self.new.documents.items ≡ renewed self.old.documents.items at (record { id = id; last = self.old.highest + 1 }) }
-        ensures capacity { vec_capacity self.new.documents ≡ vec_capacity self.old.documents }
-        ensures revisions { self.new.revisions ≡ self.old.revisions }
-        ensures contents { self.new.contents ≡ self.old.contents }
-        ensures logs { self.new.logs ≡ self.old.logs }
-        ensures highest { self.new.highest ≡ self.old.highest + 1 }
-    {
-        self.highest += 1;
-        let d = Document {
-            id,
-            last: self.highest,
-        };
-        if at < self.documents.len() {
-            self.documents[at] = d;
-        } else {
-            self.documents.push_reserved(d);
-        }
-    }
-
-    // Whether a slot keeps this mark and body; a revision without a slot keeps nothing else.
-    fn keeps(&self, slot: Option<u8>, mark: Mark, body: &[u8]) -> bool
+    // Whether a slot keeps the mark and the body of a path; a revision without a slot keeps nothing else.
+    fn keeps(&self, slot: Option<u8>, path: &Path) -> bool
         requires { IfSome slot (λ s. s < length self.now.contents.items) }
-        ensures { Decides result (Keeps self.now.contents.items slot (content (mark_number mark) body.now)) }
+        ensures { Decides result (Keeps self.now.contents.items slot (path_of path.now).content) }
     {
         let contents = self.contents.as_slice();
+        let Path { mark, body, .. } = *path;
         slot.is_none_or(|s| contents[s as usize].keeps(mark, body))
     }
 
     // Whether there is room for a document at a place, so many revisions, a head and a change number.
-    fn has_room(&self, document: usize, missing: usize, slot: Option<u8>) -> bool
-        requires { missing ≤ 200 }
+    fn has_room(&self, document: usize, missing: u8, slot: Option<u8>) -> bool
         ensures { Decides result (Fits self.now document missing slot) }
     {
-        let head = match slot {
-            None => self.contents.len() < HEADS,
-            Some(_) => true,
-        };
         document < DOCUMENTS
-            && self.revisions.len() <= REVISIONS - missing
-            && head
+            && self.revisions.len() <= REVISIONS - missing as usize
+            && (slot.is_some() || self.contents.len() < HEADS)
             && self.highest < u32::MAX
     }
 
     // The place of a document, or that behind all.
+    // Kept: the entries of a new document's revisions name its place before it is there, so one number is plainer than an `Option`.
     fn place_for(&self, id: DocumentId) -> usize
         ensures value { result ≡ place_for self.now.documents.items (place (is_document (unpacked id.bytes)) 0 self.now.documents.items) }
         ensures within { result ≤ length self.now.documents.items }
     {
         let documents = self.documents.as_slice();
-        match place_in(documents, &id) {
-            Some(i) => i,
-            None => documents.len(),
-        }
+        place_in(documents, &id).unwrap_or(documents.len())
     }
 
     // Adds the generations of a path after the newest held one.
-    fn extend(
-        &mut self,
-        id: DocumentId,
-        document: usize,
-        tags: &[u8],
-        k: usize,
-        n: usize,
-        at: Option<usize>,
-        slot: Option<u8>,
-        content: Content,
-    )
+    fn extend(&mut self, document: usize, path: &Path, newest: NewestHeld)
         requires reserved { Reserved self.old }
-        requires path { (k < n) × (n ≤ 200) × (8 * n ≤ length tags.now) }
+        requires order { newest.generation < path.now.generation }
         requires known { document ≤ length self.old.documents.items }
-        requires there { (IfSome at (λ i. i < length self.old.revisions.items)) × (IfSome slot (λ s. s < length self.old.contents.items)) }
-        requires room { Fits self.old document (n - k) slot }
-        ensures { Extended self.old id document (tag_at tags.now) n k at slot content self.new }
+        requires there { (IfSome newest.place (λ i. i < length self.old.revisions.items)) × (IfSome newest.slot (λ s. s < length self.old.contents.items)) }
+        requires room { Fits self.old document (path.now.generation - newest.generation) newest.slot }
+        ensures { Grown self.old document path.now newest self.new }
     {
-        self.strip(at);
-        let slot = self.place_content(slot, content);
-        self.add_missing(document as u8, tags, k, n, slot);
-        self.renew(id, document);
+        if let Some(i) = newest.place {
+            self.revision_mut(i).slot = None;
+        }
+        let content = Content::new(path.mark, path.body);
+        let slot = place_content(&mut self.contents, newest.slot, content);
+        let k = newest.generation;
+        add_missing(&mut self.revisions, document as u8, path, k, slot);
+        self.highest += 1;
+        let entry = Document {
+            id: path.id,
+            last: self.highest,
+        };
+        put_at(&mut self.documents, document, entry);
     }
 
-    // Writes a path of good input to the tables.
-    fn write_path(
-        &mut self,
-        id: DocumentId,
-        document: usize,
-        tags: &[u8],
-        n: usize,
-        mark: Mark,
-        body: &[u8],
-    ) -> Result<u32, Fault>
+    // Writes a path to the document at a place.
+    fn write_at(&mut self, document: usize, path: &Path) -> Result<u32, Fault>
         requires sound { Sound self.old }
-        requires path { (0 < n) × (n ≤ 200) × (8 * n ≤ length tags.now) }
-        requires body { length body.now ≤ 96 }
         requires known { document ≤ length self.old.documents.items }
-        ensures { Wrote self.old id document (tag_at tags.now) n (content (mark_number mark) body.now) result self.new }
+        ensures { Wrote self.old document path.now result self.new }
     {
-        let Some(newest) = self.newest_held(document as u8, tags, n) else {
-            return Err(Fault::from(Decline::Contradiction));
-        };
-        let k = newest.generation;
-        let slot = self.slot_at(newest.place);
-        if k == n {
-            if self.keeps(slot, mark, body) {
+        let newest = self.newest_held(document as u8, path)?;
+        if newest.generation == path.generation {
+            if self.keeps(newest.slot, path) {
                 return Ok(0);
             }
-            return Err(Fault::from(Decline::Contradiction));
+            return Err(Decline::Contradiction.into());
         }
-        if !self.has_room(document, n - k, slot) {
-            return Err(Fault::from(Decline::Full));
+        if !self.has_room(document, path.generation - newest.generation, newest.slot) {
+            return Err(Decline::Full.into());
         }
-        let content = Content::new(mark, body);
-        self.extend(id, document, tags, k, n, newest.place, slot, content);
+        self.extend(document, path, newest);
         Ok(1)
     }
 
-    // Writes a path of good input.
-    fn write_good(
-        &mut self,
-        id: DocumentId,
-        tags: &[u8],
-        n: usize,
-        mark: Mark,
-        body: &[u8],
-    ) -> Result<u32, Fault>
-        requires sound { Sound self.old }
-        requires id { IsId id.bytes }
-        requires path { (1 ≤ n) × (n ≤ 200) × (length tags.now ≡ 8 * n) }
-        requires body { length body.now ≤ 96 }
+    // Writes a path.
+    fn write(&mut self, path: &Path) -> Result<u32, Fault>
+        requires { Sound self.old }
         ensures sound { Sound self.new }
-        ensures replies { PathReplied self.old (record { doc = unpacked id.bytes; tags = eights n tags.now; content = content (mark_number mark) body.now }) result self.new }
+        ensures replies { PathReplied self.old (path_of path.now) result self.new }
     {
-        let document = self.place_for(id);
-        self.write_path(id, document, tags, n, mark, body)
+        let document = self.place_for(path.id);
+        self.write_at(document, path)
     }
 
     // Writes the path of a revision: the tags of its line, its mark and its body; 1 if that changes something, else 0.
@@ -455,12 +299,7 @@ impl Tables {
         ensures sound { Sound self.new }
         ensures writes { Writes (Function.path_write id.now generation tags.now mark body.now) plain (path (path_given id.now generation tags.now mark body.now)) self.old result self.new }
     {
-        let id = DocumentId::read(id)?;
-        let n = path_length(generation, tags)?;
-        let mark = Mark::read(mark)?;
-        if body.len() > 96 {
-            return Err(Fault::from(Decline::Body));
-        }
-        self.write_good(id, tags, n, mark, body)
+        let path = Path::read(id, generation, tags, mark, body)?;
+        self.write(&path)
     }
 }

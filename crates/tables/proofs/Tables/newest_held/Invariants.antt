@@ -1,5 +1,6 @@
-use Rattle.tables.specs.Paths.{tag_at, NewestAt}
+use Rattle.std.proofs.Common.{◌-◌}
+use Rattle.tables.specs.Paths.{NewestAt}
 use Rattle.tables.proofs.Tables.newest_held.Given as goal
 
-abbrev pub invariant-loop-i : goal.invariant-loop-i
-invariant-loop-i l = NewestAt l.self l.document (tag_at l.tags) l.i l.newest
+abbrev pub invariant-loop-generation : goal.invariant-loop-generation
+invariant-loop-generation l = NewestAt l.self l.document l.path (l.generation - 1) l.newest
