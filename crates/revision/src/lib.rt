@@ -71,8 +71,9 @@ pub fn is_generation(number: u64) -> bool
     (1..=200).contains(&number)
 }
 
-// A revision: its generation, 1 to 200, and its tag; ordered by the generation, then by the tag.
-#[derive(Clone, Copy, PartialEq, Eq, PartialOrd, Ord, Debug)]
+// A revision: its generation, 1 to 200, and its tag; ordered by the generation, then by the tag. The defaults here and
+// below are no revision and no head: they fill the unused places of fixed memory.
+#[derive(Clone, Copy, PartialEq, Eq, PartialOrd, Ord, Default, Debug)]
 pub struct Revision {
     pub generation: u8,
     pub tag: u64,
@@ -91,9 +92,10 @@ impl Revision {
 }
 
 // A head is live, or it says that the document is deleted; live is above deleted.
-#[derive(Clone, Copy, PartialEq, Eq, PartialOrd, Ord, Debug)]
+#[derive(Clone, Copy, PartialEq, Eq, PartialOrd, Ord, Default, Debug)]
 pub enum Mark {
     Deleted,
+    #[default]
     Live,
 }
 
@@ -125,7 +127,7 @@ impl From<Mark> for u8 {
 }
 
 // A head by what its order looks at: the mark, then the revision.
-#[derive(Clone, Copy, PartialEq, Eq, PartialOrd, Ord, Debug)]
+#[derive(Clone, Copy, PartialEq, Eq, PartialOrd, Ord, Default, Debug)]
 pub struct Head {
     pub mark: Mark,
     pub revision: Revision,
