@@ -40,9 +40,66 @@ pub data View (rs : List HeldRevision) (at : Option ℕ) (d : ℕ) (tag : ℕ �
   retires : i < length rs → at ≡ Some i → r ≡ without_slot (get_or rs i z) → View rs at d tag n s k z i r
   new : (j : ℕ) → i ≡ length rs + j → j < n - k → r ≡ row d tag n s (k + 1 + j) → View rs at d tag n s k z i r
 
-module _ (m : ℕ) (rs : List HeldRevision) (cs : List Content) (d : ℕ) (tag : ℕ → ℕ) (n k : ℕ) (x : Content) (at slot : Option ℕ)
-    (sound : SoundRevisions m rs cs) (less : k < n) (beyond : (g : ℕ) → k < g → g ≤ n → tree_at rs cs d g (tag g) ≡ absent)
-    (pe : place (is_revision d k (tag k)) 0 rs ≡ at) (se : slot_at rs at ≡ slot) where
+-- A path of n generations is to be written to sound revisions: k is the newest of which an entry is held, or 0, and x is its content.
+pub record Start : Type 0 where
+  pub documents : ℕ
+  pub rs : List HeldRevision
+  pub cs : List Content
+  pub d : ℕ
+  pub tag : ℕ → ℕ
+  pub n : ℕ
+  pub k : ℕ
+  pub x : Content
+  pub sound : SoundRevisions documents rs cs
+  pub less : k < n
+  pub beyond : (g : ℕ) → k < g → g ≤ n → tree_at rs cs d g (tag g) ≡ absent
+
+module _ (start : Start) where
+  abbrev m : ℕ
+  m = start.documents
+
+  abbrev rs : List HeldRevision
+  rs = start.rs
+
+  abbrev cs : List Content
+  cs = start.cs
+
+  abbrev d : ℕ
+  d = start.d
+
+  abbrev tag : ℕ → ℕ
+  tag = start.tag
+
+  abbrev n : ℕ
+  n = start.n
+
+  abbrev k : ℕ
+  k = start.k
+
+  abbrev x : Content
+  x = start.x
+
+  abbrev at : Option ℕ
+  at = place (is_revision d k (tag k)) 0 rs
+
+  abbrev slot : Option ℕ
+  slot = slot_at rs at
+
+  abbrev sound : SoundRevisions m rs cs
+  sound = start.sound
+
+  less : k < n
+  less = start.less
+
+  abbrev beyond : (g : ℕ) → k < g → g ≤ n → tree_at rs cs d g (tag g) ≡ absent
+  beyond = start.beyond
+
+  pe : place (is_revision d k (tag k)) 0 rs ≡ at
+  pe = refl
+
+  se : slot_at rs at ≡ slot
+  se = refl
+
   abbrev s : ℕ
   s = slot_for cs slot
 
