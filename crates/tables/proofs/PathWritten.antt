@@ -167,6 +167,9 @@ module _ (t : Tables) (p : Code.Path) (sound : Sound t) where
     beyond : (g : ℕ) → k < g → g ≤ n → tree_at rs cs d g (tag g) ≡ Trees.absent
     beyond g l m = gone w tag n ts (tree_in t d) k closed nw g l m
 
+    abbrev start : Table.Start
+    start = record { documents = length ds; rs = rs; cs = cs; d = d; tag = tag; n = n; k = k; x = x; sound = sound.revisions; less = less; beyond = beyond }
+
     size : (length ds ≤ length (vec_items u.documents)) × (d < length (vec_items u.documents)) × (length (vec_items u.documents) ≤ 32)
     size =
         let s = sizes ds t.highest id o sound.documents refl in
@@ -176,8 +179,8 @@ module _ (t : Tables) (p : Code.Path) (sound : Sound t) where
     revisions_after : SoundRevisions (length (vec_items u.documents)) (vec_items u.revisions) (vec_items u.contents)
     revisions_after =
         subst (λ (y : List HeldRevision). SoundRevisions (length (vec_items u.documents)) y (vec_items u.contents)) (sym ex.revisions)
-        (subst (λ (y : List Content). SoundRevisions (length (vec_items u.documents)) (Table.rs' (length ds) rs cs d tag n k x (entry_of t d tag k) (slot_of t d tag k) sound.revisions less beyond refl refl) y) (sym ex.contents)
-        (Table.sound_after (length ds) rs cs d tag n k x (entry_of t d tag k) (slot_of t d tag k) sound.revisions less beyond refl refl
+        (subst (λ (y : List Content). SoundRevisions (length (vec_items u.documents)) (Table.rs' start) y) (sym ex.contents)
+        (Table.sound_after start
         (length (vec_items u.documents)) size.0 size.1 p.few p.tagged short w ts is nw))
 
     contents_few : (q : Option ℕ) → SlotRoom (length cs) q → length (placed cs q x) ≤ 64
@@ -193,7 +196,7 @@ module _ (t : Tables) (p : Code.Path) (sound : Sound t) where
         documents = (omega (arith, sound.reserved.documents.0, ex.capacities.0), size.2);
         revisions = (
           omega (arith, sound.reserved.revisions.0, ex.capacities.1),
-          (let e = ap length ex.revisions ∙ length_after (length ds) rs cs d tag n k x (entry_of t d tag k) (slot_of t d tag k) sound.revisions less beyond refl refl in omega (arith, fit.1)),
+          (let e = ap length ex.revisions ∙ length_after start in omega (arith, fit.1)),
         );
         contents = (omega (arith, sound.reserved.contents.0, ex.capacities.2), (let e = ap length ex.contents in omega (arith, contents_few (slot_of t d tag k) fit.2)));
         logs = subst (λ y. (8 ≤ vec_capacity y) × (length (vec_items y) ≤ 8)) (sym ex.logs) sound.reserved.logs;
@@ -203,10 +206,10 @@ module _ (t : Tables) (p : Code.Path) (sound : Sound t) where
     docs_after : documents_of u ≡ put w (documents_of t)
     docs_after =
         (λ i. documents_in (ex.documents i) (ex.revisions i) (ex.contents i) (ex.highest i))
-        ∙ documents_put ds t.highest id o sound.documents refl rs (Table.rs' (length ds) rs cs d tag n k x (entry_of t d tag k) (slot_of t d tag k) sound.revisions less beyond refl refl) cs
-        (Table.cs' (length ds) rs cs d tag n k x (entry_of t d tag k) (slot_of t d tag k) sound.revisions less beyond refl refl) w refl sound.revisions
-        (tree_written (length ds) rs cs d tag n k x (entry_of t d tag k) (slot_of t d tag k) sound.revisions less beyond refl refl (length (vec_items u.documents)) size.0 size.1 p.few p.tagged short w ts is nw)
-        (same_tree (length ds) rs cs d tag n k x (entry_of t d tag k) (slot_of t d tag k) sound.revisions less beyond refl refl)
+        ∙ documents_put ds t.highest id o sound.documents refl rs (Table.rs' start) cs
+        (Table.cs' start) w refl sound.revisions
+        (tree_written start (length (vec_items u.documents)) size.0 size.1 p.few p.tagged short w ts is nw)
+        (same_tree start)
 
     -- the heads afterwards are at most 64
     heads_after : (hs : List Head) → Heads ((put w (documents_of t)).tree w.doc) hs → length hs ≤ 64

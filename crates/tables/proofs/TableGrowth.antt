@@ -40,9 +40,60 @@ pub data View (rs : List HeldRevision) (at : Option ℕ) (d : ℕ) (tag : ℕ �
   retires : i < length rs → at ≡ Some i → r ≡ without_slot (get_or rs i z) → View rs at d tag n s k z i r
   new : (j : ℕ) → i ≡ length rs + j → j < n - k → r ≡ row d tag n s (k + 1 + j) → View rs at d tag n s k z i r
 
-module _ (m : ℕ) (rs : List HeldRevision) (cs : List Content) (d : ℕ) (tag : ℕ → ℕ) (n k : ℕ) (x : Content) (at slot : Option ℕ)
-    (sound : SoundRevisions m rs cs) (less : k < n) (beyond : (g : ℕ) → k < g → g ≤ n → tree_at rs cs d g (tag g) ≡ absent)
-    (pe : place (is_revision d k (tag k)) 0 rs ≡ at) (se : slot_at rs at ≡ slot) where
+-- A path of n generations is to be written to sound revisions: k is the newest of which an entry is held, or 0, and x is its content.
+pub record Start : Type 0 where
+  pub documents : ℕ
+  pub rs : List HeldRevision
+  pub cs : List Content
+  pub d : ℕ
+  pub tag : ℕ → ℕ
+  pub n : ℕ
+  pub k : ℕ
+  pub x : Content
+  pub sound : SoundRevisions documents rs cs
+  pub less : k < n
+  pub beyond : (g : ℕ) → k < g → g ≤ n → tree_at rs cs d g (tag g) ≡ absent
+
+module _ (start : Start) where
+  abbrev m : ℕ
+  m = start.documents
+
+  abbrev rs : List HeldRevision
+  rs = start.rs
+
+  abbrev cs : List Content
+  cs = start.cs
+
+  abbrev d : ℕ
+  d = start.d
+
+  abbrev tag : ℕ → ℕ
+  tag = start.tag
+
+  abbrev n : ℕ
+  n = start.n
+
+  abbrev k : ℕ
+  k = start.k
+
+  abbrev x : Content
+  x = start.x
+
+  abbrev at : Option ℕ
+  at = place (is_revision d k (tag k)) 0 rs
+
+  abbrev slot : Option ℕ
+  slot = slot_at rs at
+
+  abbrev sound : SoundRevisions m rs cs
+  sound = start.sound
+
+  less : k < n
+  less = start.less
+
+  abbrev beyond : (g : ℕ) → k < g → g ≤ n → tree_at rs cs d g (tag g) ≡ absent
+  beyond = start.beyond
+
   abbrev s : ℕ
   s = slot_for cs slot
 
@@ -62,7 +113,7 @@ module _ (m : ℕ) (rs : List HeldRevision) (cs : List Content) (d : ℕ) (tag :
 
   -- the place that is found
   ancestor : (i : ℕ) → at ≡ Some i → (i < length rs) × ((z : HeldRevision) → is_revision d k (tag k) (get_or rs i z) ≡ true)
-  ancestor i e = ((found (is_revision d k (tag k)) no_revision rs i (pe ∙ e)).within, λ z. (found (is_revision d k (tag k)) z rs i (pe ∙ e)).passes)
+  ancestor i e = ((found (is_revision d k (tag k)) no_revision rs i e).within, λ z. (found (is_revision d k (tag k)) z rs i e).passes)
 
   strip_view : (z : HeldRevision) (i : ℕ) → i < length rs → (o : Option ℕ) → at ≡ o → (((at ≡ Some i → ⊥) × (get_or (stripped rs o) i z ≡ get_or rs i z)) ⊎ ((at ≡ Some i) × (get_or (stripped rs o) i z ≡ without_slot (get_or rs i z))))
   strip_view z i l None e = inl ((λ f. let y : ◌≡◌ {A = ℕ} 0 1 = cc in omega arith), refl)
@@ -111,9 +162,9 @@ module _ (m : ℕ) (rs : List HeldRevision) (cs : List Content) (d : ℕ) (tag :
       ∙ (or_other_none (first (is_revision d k (tag k)) (stripped rs at)) ∙ go at refl))
     where
       go : (o : Option ℕ) → at ≡ o → first (is_revision d k (tag k)) (stripped rs o) ≡ option_map without_slot (first (is_revision d k (tag k)) rs)
-      go None q = let z : first (is_revision d k (tag k)) rs ≡ None = not_found (is_revision d k (tag k)) rs (pe ∙ q) in z ∙ sym (ap (option_map without_slot) z)
+      go None q = let z : first (is_revision d k (tag k)) rs ≡ None = not_found (is_revision d k (tag k)) rs q in z ∙ sym (ap (option_map without_slot) z)
       go (Some i) q =
-          let f = found (is_revision d k (tag k)) no_revision rs i (pe ∙ q) in
+          let f = found (is_revision d k (tag k)) no_revision rs i q in
           set_only (is_revision d k (tag k)) no_revision rs i (without_slot (get_or rs i no_revision)) f.within f.passes
           (λ j l. false_from_ne_true _ (λ t. let e : j ≡ i = sound.once d k (tag k) j i no_revision (omega (arith, f.within)) f.within t f.passes in omega arith))
           ∙ sym (ap (option_map without_slot) f.value)
@@ -134,8 +185,8 @@ module _ (m : ℕ) (rs : List HeldRevision) (cs : List Content) (d : ℕ) (tag :
   slot_there v e = go at refl
     where
       go : (o : Option ℕ) → at ≡ o → v < length cs
-      go None q = absurd (let h : None ≡ Some v = sym (ap (slot_at rs) q) ∙ (se ∙ e) in let y : ◌≡◌ {A = ℕ} 0 1 = cc in omega arith)
-      go (Some i) q = sound.slots i v no_revision (ancestor i q).0 (sym (ap (slot_at rs) q) ∙ (se ∙ e))
+      go None q = absurd (let h : None ≡ Some v = sym (ap (slot_at rs) q) ∙ e in let y : ◌≡◌ {A = ℕ} 0 1 = cc in omega arith)
+      go (Some i) q = sound.slots i v no_revision (ancestor i q).0 (sym (ap (slot_at rs) q) ∙ e)
 
   pub length_contents : (length cs ≤ length cs') × (slot_for cs slot < length cs')
   length_contents = go slot refl
@@ -156,9 +207,9 @@ module _ (m : ℕ) (rs : List HeldRevision) (cs : List Content) (d : ℕ) (tag :
   other_slot z i v l f e q = go slot refl q
     where
       from : (u : ℕ) → slot ≡ Some u → (o : Option ℕ) → at ≡ o → v ≡ u → ⊥
-      from u b None a w = let h : None ≡ Some u = sym (ap (slot_at rs) a) ∙ (se ∙ b) in let y : ◌≡◌ {A = ℕ} 0 1 = cc in omega arith
+      from u b None a w = let h : None ≡ Some u = sym (ap (slot_at rs) a) ∙ b in let y : ◌≡◌ {A = ℕ} 0 1 = cc in omega arith
       from u b (Some j) a w = f (a ∙ ap (λ (y : ℕ). Some y) (sym (sound.own_slots i j v z l (ancestor j a).0 e
-          (ap (λ (r : HeldRevision). r.slot) (get_or_default rs j z no_revision (ancestor j a).0) ∙ (sym (ap (slot_at rs) a) ∙ (se ∙ (b ∙ ap (λ (y : ℕ). Some y) (sym w))))))))
+          (ap (λ (r : HeldRevision). r.slot) (get_or_default rs j z no_revision (ancestor j a).0) ∙ (sym (ap (slot_at rs) a) ∙ (b ∙ ap (λ (y : ℕ). Some y) (sym w)))))))
 
       go : (o : Option ℕ) → slot ≡ o → v ≡ slot_for cs o → ⊥
       go None b w = let h = sound.slots i v z l e in omega arith
@@ -291,14 +342,14 @@ module _ (m : ℕ) (rs : List HeldRevision) (cs : List Content) (d : ℕ) (tag :
 
       go : (o : Option ℕ) → at ≡ o → (p : Option ℕ) → slot ≡ p → count has_slot (stripped rs o) + 1 ≡ length (placed cs p x)
       go None a None b = omega (arith, sound.all_slots, length-append cs (x ∷ []))
-      go None a (Some v) b = absurd (let h : None ≡ Some v = sym (ap (slot_at rs) a) ∙ (se ∙ b) in let y : ◌≡◌ {A = ℕ} 0 1 = cc in omega arith)
+      go None a (Some v) b = absurd (let h : None ≡ Some v = sym (ap (slot_at rs) a) ∙ b in let y : ◌≡◌ {A = ℕ} 0 1 = cc in omega arith)
       go (Some i) a None b =
-          let h : (get_or rs i no_revision).slot ≡ None = sym (ap (slot_at rs) a) ∙ (se ∙ b) in
+          let h : (get_or rs i no_revision).slot ≡ None = sym (ap (slot_at rs) a) ∙ b in
           let c = count_set has_slot no_revision rs i (without_slot (get_or rs i no_revision)) (ancestor i a).0 in
           let f : ◌≡◌ {A = ℕ} (cond (has_slot (get_or rs i no_revision)) 1 0) 0 = ap (λ (o : Option ℕ). cond (is_some o) 1 0) h in
           omega (arith, sound.all_slots, length-append cs (x ∷ []))
       go (Some i) a (Some v) b =
-          let h : (get_or rs i no_revision).slot ≡ Some v = sym (ap (slot_at rs) a) ∙ (se ∙ b) in
+          let h : (get_or rs i no_revision).slot ≡ Some v = sym (ap (slot_at rs) a) ∙ b in
           let c = count_set has_slot no_revision rs i (without_slot (get_or rs i no_revision)) (ancestor i a).0 in
           let f : ◌≡◌ {A = ℕ} (cond (has_slot (get_or rs i no_revision)) 1 0) 1 = ap (λ (o : Option ℕ). cond (is_some o) 1 0) h in
           omega (arith, sound.all_slots, length-set cs v x)
