@@ -90,7 +90,7 @@ impl DocumentId {
 }
 
 // A revision: its generation, 1 to 200, and its tag.
-#[derive(Clone, Copy, PartialEq, Eq, Debug)]
+#[derive(Clone, Copy, PartialEq, Eq, Default, Debug)]
 pub struct Revision {
     pub generation: u8,
     pub tag: u64,
@@ -112,8 +112,9 @@ impl Revision {
 }
 
 // A head is live, or it says that the document is deleted.
-#[derive(Clone, Copy, PartialEq, Eq, Debug)]
+#[derive(Clone, Copy, PartialEq, Eq, Default, Debug)]
 pub enum Mark {
+    #[default]
     Live,
     Deleted,
 }
@@ -142,7 +143,7 @@ impl Mark {
 }
 
 // A head by what its order looks at.
-#[derive(Clone, Copy, PartialEq, Eq, Debug)]
+#[derive(Clone, Copy, PartialEq, Eq, Default, Debug)]
 pub struct Head {
     pub mark: Mark,
     pub revision: Revision,
