@@ -1,11 +1,13 @@
 -- What the tables promise is what a peer that stands on them owes.
 use Rattle.std.proofs.Common.{◌≡◌, ℕ, Bool, true, false, cond, ◌⊎◌, List, [], ◌∷◌, Some, None, Ok, Err, Option, Result, sym, refl, ap, subst, inl, inr}
+use Rattle.std.proofs.lemmas.List.{append-nil}
 use Rattle.decline.specs.declared.Fault.{Fault}
 use Rattle.decline.specs.Faults.{bare}
 use Rattle.revision.specs.Ids.{Id}
 use Rattle.revision.specs.Paths.{Path}
-use Rattle.checkpoint.specs.Logs.{Note}
-use Rattle.peer.specs.Records.{Record}
+use Rattle.checkpoint.specs.Logs.{Note, enter}
+use Rattle.peer.specs.Records.{Record, put}
+use Rattle.peer.specs.Waiting.{after}
 use Rattle.peer.specs.Peers.{Peer, Write, path, entry, changes, accept, wait, Moved, nothing, writes, declined, by_input, by_state}
 use Rattle.peer.specs.Functions.{Function, log_write, path_write, input, Verdict, Call, note_given, path_given, PathVerdict, contradicted, full, fine, NoteVerdict}
 use Rattle.peer.specs.Functions as F
@@ -13,6 +15,7 @@ use Rattle.peer.specs.Replies.{FaultOf, Replies, plain}
 use Rattle.peer.proofs.Calls.{moved_refl}
 use Rattle.tables.specs.declared.Tables.{Tables}
 use Rattle.tables.specs.Tables.{record_of}
+use Rattle.tables.specs.Room.{room_in}
 use Rattle.tables.specs.Calls.{peer_on, applied, Writes}
 use Rattle.memory.specs.State.{standing}
 
@@ -35,44 +38,29 @@ module _ (n s : ℕ) (t : Tables) where
   note_verdict m v (F.NoteVerdict.full f) = F.NoteVerdict.full f
   note_verdict m v (F.NoteVerdict.fine f) = F.NoteVerdict.fine f
 
+  -- what waited has moved, all of it
+  all_moved : (ps : List Path) (ns : List Note) (u : Tables) → (record_of u).docs ≡ after put (record_of t).docs ps → (record_of u).logs ≡ after enter (record_of t).logs ns →
+      Moved (record { number = n; stamp = s; up = true; standing = record_of t; paths = ps; notes = ns; room = room_in t }) (standing n s u)
+  all_moved ps ns u d l = record {
+    number = refl;
+    stamp = refl;
+    up = refl;
+    docs = record { part = ps; whole = sym (append-nil ps); reach = d };
+    logs = record { part = ns; whole = sym (append-nil ns); reach = l };
+  }
+
   -- a write that is taken moves at once
   moved : (w : Write) (u : Tables) → record_of u ≡ applied w (record_of t) → Moved (accept w (standing n s t)) (standing n s u)
-  moved (path w) u e = go (changes (path w) (record_of t)) e
+  moved (path w) u e = go (changes (path w) (record_of t)) (ap (λ (r : Record). r.docs) e) (ap (λ (r : Record). r.logs) e)
     where
-      go : (b : Bool) → ◌≡◌ {A = Record} (record_of u) (record { docs = cond b (Rattle.peer.specs.Records.put w (record_of t).docs) (record_of t).docs; logs = (record_of t).logs }) →
-          Moved (cond b (wait (path w) (standing n s t)) (standing n s t)) (standing n s u)
-      go true e = record {
-        number = refl;
-        stamp = refl;
-        up = refl;
-        docs = record { part = w ∷ []; whole = refl; reach = ap (λ (r : Record). r.docs) e };
-        logs = record { part = []; whole = refl; reach = ap (λ (r : Record). r.logs) e };
-      }
-      go false e = record {
-        number = refl;
-        stamp = refl;
-        up = refl;
-        docs = record { part = []; whole = refl; reach = ap (λ (r : Record). r.docs) e };
-        logs = record { part = []; whole = refl; reach = ap (λ (r : Record). r.logs) e };
-      }
-  moved (entry m) u e = go (changes (entry m) (record_of t)) e
+      go : (b : Bool) → (record_of u).docs ≡ cond b (put w (record_of t).docs) (record_of t).docs → (record_of u).logs ≡ (record_of t).logs → Moved (cond b (wait (path w) (standing n s t)) (standing n s t)) (standing n s u)
+      go true d l = all_moved (w ∷ []) [] u d l
+      go false d l = all_moved [] [] u d l
+  moved (entry m) u e = go (changes (entry m) (record_of t)) (ap (λ (r : Record). r.docs) e) (ap (λ (r : Record). r.logs) e)
     where
-      go : (b : Bool) → ◌≡◌ {A = Record} (record_of u) (record { docs = (record_of t).docs; logs = cond b (Rattle.checkpoint.specs.Logs.enter m (record_of t).logs) (record_of t).logs }) →
-          Moved (cond b (wait (entry m) (standing n s t)) (standing n s t)) (standing n s u)
-      go true e = record {
-        number = refl;
-        stamp = refl;
-        up = refl;
-        docs = record { part = []; whole = refl; reach = ap (λ (r : Record). r.docs) e };
-        logs = record { part = m ∷ []; whole = refl; reach = ap (λ (r : Record). r.logs) e };
-      }
-      go false e = record {
-        number = refl;
-        stamp = refl;
-        up = refl;
-        docs = record { part = []; whole = refl; reach = ap (λ (r : Record). r.docs) e };
-        logs = record { part = []; whole = refl; reach = ap (λ (r : Record). r.logs) e };
-      }
+      go : (b : Bool) → (record_of u).docs ≡ (record_of t).docs → (record_of u).logs ≡ cond b (enter m (record_of t).logs) (record_of t).logs → Moved (cond b (wait (entry m) (standing n s t)) (standing n s t)) (standing n s u)
+      go true d l = all_moved [] (m ∷ []) u d l
+      go false d l = all_moved [] [] u d l
 
   pub log_replies : (k : List ℕ) (z q : ℕ) (r : Result Unit Fault) (u : Tables) → Writes (log_write k z q) plain (entry (note_given k z q)) t r u → Replies (log_write k z q) plain (standing n s t) r (standing n s u)
   log_replies k z q (Ok a) u ((i, v, w), e) =

@@ -27,13 +27,13 @@ good_mark Live = refl
 good_mark Deleted = refl
 
 -- a content of a sound table is a good one
-pub good_kept : (c : Content) → c.length ≤ 96 → good_content (content_of c) ≡ true
+good_kept : (c : Content) → c.length ≤ 96 → good_content (content_of c) ≡ true
 good_kept c h =
     let l : length (take c.length c.body) ≤ 96 = omega (arith, length-take c.length c.body) in
     ap (λ (b : Bool). b && leb (length (take c.length c.body)) 96) (good_mark c.mark) ∙ le-leb (length (take c.length c.body)) 96 l
 
 -- the slot of a head by what was given
-pub slot_given : (t : Tables) (bs : List ℕ) (g x : ℕ) (d : DocumentId) (r : Revision) (o : Option ℕ) → IdRead bs (Ok d) → RevisionMade g x (Ok r) → HeadSlot t (unpacked d.bytes) r.generation r.tag o → HeadSlot t bs g x o
+slot_given : (t : Tables) (bs : List ℕ) (g x : ℕ) (d : DocumentId) (r : Revision) (o : Option ℕ) → IdRead bs (Ok d) → RevisionMade g x (Ok r) → HeadSlot t (unpacked d.bytes) r.generation r.tag o → HeadSlot t bs g x o
 slot_given t bs g x d r o i m s =
     let a = subst (λ (id : Id). HeadSlot t id r.generation r.tag o) i.2 s in
     subst (λ (q : Revision). HeadSlot t bs q.generation q.tag o) m.1 a

@@ -62,9 +62,6 @@ module _ (t : Tables) where
             let n = found_names d g x (vec_items t.revisions) r q in
             (own ∙ sym (ap (tree_at (vec_items t.revisions) (vec_items t.contents)) n.document), found_entry d g x r q, n.generation, n.tag)
 
-    pub no_entry : None ≡ place (is_document id) 0 (vec_items t.documents) → HasEntry t id g x None
-    no_entry p = sym (ap (λ (o : Option ℕ). tree_from (vec_items t.revisions) (vec_items t.contents) o g x) p)
-
     entry_node : (r : HeldRevision) → HasEntry t id g x (Some r) → (documents_of t).tree id g x ≡ slotted (vec_items t.contents) r.parent r.slot
     entry_node r h =
         ap (λ (f : Tree). f g x) h.0 ∙ (sym (ap (λ (v : ℕ). tree_at (vec_items t.revisions) (vec_items t.contents) r.document v x) h.2)

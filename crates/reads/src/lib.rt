@@ -27,7 +27,7 @@ mod heads;
 
 pub use heads::{head_at, head_count};
 
-// Of the documents that have changed after n the one that changed first.
+// Of the documents with a last change number above n the one with the smallest.
 fn next_in(documents: &[Document], n: u32) -> Option<Document>
     ensures none { IfNone result (changed_after n documents.now ≡ []) }
     ensures there { IfSome result (Contains documents.now) }
