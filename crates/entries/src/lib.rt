@@ -2,7 +2,7 @@
 // by key.
 #![tactic(auto)]
 
-ghost use Rattle.std.specs.Prelude.{◌≡◌, ◌<◌, ◌≤◌, Bool, length, IfSome, Decides};
+ghost use Rattle.std.specs.Prelude.{◌≡◌, ◌<◌, ◌≤◌, Bool, length, take, IfSome, Decides};
 ghost use Rattle.octets.specs.Packed.{unpacked};
 ghost use Rattle.order.specs.Lists.{same};
 ghost use Rattle.revision.specs.Values.{mark_number};
@@ -59,15 +59,14 @@ pub struct Content {
 }
 
 impl Content {
-    // A content of a mark and a body.
+    // A content of a mark and a body, of which the first 96 bytes are kept.
     pub fn new(mark: Mark, body: &[u8]) -> Content
-        requires { length body.now ≤ 96 }
-        ensures is { content_of result ≡ content (mark_number mark) body.now }
+        ensures is { content_of result ≡ content (mark_number mark) (take 96 body.now) }
         ensures short { result.length ≤ 96 }
     {
-        let length = body.len();
+        let length = BODY.min(body.len());
         let mut all = [0; BODY];
-        all[..length].copy_from_slice(body);
+        all[..length].copy_from_slice(&body[..length]);
         Content {
             mark,
             length: length as u8,

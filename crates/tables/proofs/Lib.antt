@@ -1,3 +1,4 @@
+mod Bodies
 pub mod Inputs
 pub mod TagBytes
 pub mod Standings

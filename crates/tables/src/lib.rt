@@ -242,7 +242,7 @@ impl Tables {
             }
             None => (0, None),
         };
-        let content = Content::new(path.mark, path.body);
+        let content = path.content();
         let slot = place_content(&mut self.contents, slot, content);
         add_missing(&mut self.revisions, document as u8, path, k, slot);
         self.highest += 1;

@@ -1,10 +1,12 @@
 // A path of good input.
 ghost use Rattle.std.specs.Prelude.{◌≡◌, ℕ, ◌*◌, ◌≤◌, true, length};
 ghost use Rattle.revision.specs.Ids.{IsId, good_tag};
+ghost use Rattle.revision.specs.Values.{mark_number};
+ghost use Rattle.entries.specs.Entries.{content, content_of};
 ghost use Rattle.tables.specs.Tags.{tag_at};
 
 use decline::{Decline, Fault};
-use entries::BODY;
+use entries::{BODY, Content};
 use octets::number_of;
 use revision::{DocumentId, Mark};
 
@@ -54,6 +56,14 @@ impl<'a> Path<'a> {
             mark,
             body,
         })
+    }
+
+    // What the head of the path is to keep.
+    pub fn content(&self) -> Content
+        ensures is { content_of result ≡ content (mark_number self.now.mark) self.now.body.now }
+        ensures short { result.length ≤ 96 }
+    {
+        Content::new(self.mark, self.body)
     }
 
     // The tag of a generation; 0 of generation 0.
