@@ -1,14 +1,14 @@
 -- A key's bytes, laid out part by part, and read back.
-use Rattle.std.proofs.Common.{◌≡◌, ℕ, ◌+◌, ◌-◌, ◌^◌, ◌<◌, ◌≤◌, min, Bool, true, false, not, eqb, List, [], ◌∷◌, ◌++◌, length, get_or, take, drop, set, replicate, sym, refl, ap, ◌∙◌, ⊎_elim, arith}
+use Rattle.std.proofs.Common.{◌≡◌, ℕ, ◌-◌, ◌^◌, ◌<◌, Bool, true, false, not, eqb, List, ◌∷◌, ◌++◌, length, get_or, take, drop, set, replicate, sym, refl, ap, ◌∙◌, arith}
 use Rattle.std.specs.Cmp.Lexicographic.{pointwise}
 use Rattle.std.proofs.lemmas.Slice.Eq.{slice_eq-Decides}
-use Rattle.std.proofs.lemmas.Bool.{cases_lt, and_from, and_left, and_right, eq-eqb, both_ways, not_from_true, not-false}
+use Rattle.std.proofs.lemmas.Bool.{and_from, and_left, and_right, eq-eqb, both_ways, not_from_true, not-false}
 use Rattle.order.specs.Lists.{same}
 use Rattle.order.proofs.Lists.{same_self, same_true}
 use Rattle.octets.proofs.Packing.{Small, small_take, small_drop, number_small, length_filled}
 use Rattle.keys.specs.Keys.{Key, good_rule, key_in, key_bytes, good_key}
 use borrow.Rule.Slice.PartMut.{put_mid}
-use Rattle.std.proofs.lemmas.List.{append-nil, take_all, drop_all, drop_more, length-drop, length-take}
+use Rattle.std.proofs.lemmas.List.{append-nil, take_all, drop_more, length-take}
 use Rattle.octets.specs.BigEndian.{number, in_bytes, filled}
 use Rattle.std.proofs.lemmas.Bool.Decides.{Decides-eqb}
 
@@ -17,23 +17,6 @@ pub assembled : (x y f r : List ℕ) (n s t : ℕ) → x ≡ in_bytes 4 s → y 
     put_mid 9 16 (set (put_mid 4 4 (x ++ replicate 21 0) y) 8 n) f ≡ in_bytes 4 s ++ (in_bytes 4 t ++ (length r ∷ filled 16 r))
 assembled x y f r n s t a b c d =
     (λ i. put_mid 9 16 (set (put_mid 4 4 (a i ++ replicate 21 0) (b i)) 8 (d i)) (c i)) ∙ (λ i. in_bytes 4 s ++ (in_bytes 4 t ++ (length r ∷ append-nil (filled 16 r) i)))
-
--- a part whose ends are cut to the length is what is there of it
-pub part_clamped : {X : Type 0} (bs : List X) (from many s e : ℕ) → s ≡ min from (length bs) → e ≡ min (from + many) (length bs) → take (e - s) (drop s bs) ≡ take many (drop from bs)
-part_clamped {X} bs from many s e a b = ⊎_elim
-    (λ (h : from < length bs).
-    let q : s ≡ from = omega arith in
-    ap (λ (k : ℕ). take (e - k) (drop k bs)) q ∙ ⊎_elim
-    (λ (m : from + many < length bs). let z : e - from ≡ many = omega arith in ap (λ (k : ℕ). take k (drop from bs)) z)
-    (λ (m : length bs ≤ from + many).
-    let d : length (drop from bs) ≡ length bs - from = length-drop from bs in
-    take_all (e - from) (drop from bs) (omega arith) ∙ sym (take_all many (drop from bs) (omega arith)))
-    (cases_lt (from + many) (length bs)))
-    (λ (h : length bs ≤ from).
-    let d : drop from bs ≡ [] = drop_all from bs h in
-    let d' : drop s bs ≡ [] = drop_all s bs (omega arith) in
-    take_all (e - s) (drop s bs) (omega (arith, ap length d')) ∙ (d' ∙ sym (take_all many (drop from bs) (omega (arith, ap length d)) ∙ d)))
-    (cases_lt from (length bs))
 
 -- the number in 4 bytes of many
 pub four_number : (bs : List ℕ) (from : ℕ) (part : List ℕ) → part ≡ take 4 (drop from bs) → number (take 8 part) ≡ number (take 4 (drop from bs))

@@ -1,5 +1,5 @@
 -- Packed bytes read back.
-use Rattle.std.proofs.Common.{◌≡◌, ℕ, ◌+◌, ◌-◌, ◌^◌, ◌<◌, ◌≤◌, min, List, ◌++◌, length, get_or, take, drop, replicate, sym, refl, ap, ◌∙◌, subst, arith, lit<, length-append}
+use Rattle.std.proofs.Common.{◌≡◌, ℕ, ◌+◌, ◌-◌, ◌^◌, ◌<◌, ◌≤◌, min, List, ◌++◌, length, get_or, take, drop, replicate, sym, ap, ◌∙◌, subst, arith, lit<, length-append}
 use Rattle.std.proofs.lemmas.List.{take-append-drop, take-take, take_at, length-take-le, length-take, length-drop, length-replicate, take_all, drop-replicate, replicate-append-replicate, append_assoc}
 use Rattle.std.proofs.lemmas.Grind.{common_steps}
 use Rattle.std.proofs.lemmas.Int.Digits.{number_lt}
@@ -64,24 +64,8 @@ numbers_pack bs all p h u e f s n =
     let y : p.second ≡ (packed bs).second = s' ∙ ap (λ (m : List ℕ). number (drop 8 m)) w in
     record { few = h; is = λ i. record { first = x i; second = y i; length = n i }; same = (λ i. a i ++ b i) ∙ (take-append-drop 8 all ∙ w) }
 
--- packed alike is the same
-pub packs_once : (bs : List ℕ) (p q : Packed) → Packs bs p → Packs bs q → p ≡ q
-packs_once bs p q x y = x.is ∙ sym y.is
-
--- a front that is cut to the length
-pub take_clamped : {X : Type 0} (xs : List X) (n m k : ℕ) → length xs ≡ k → m ≡ min n k → take (m - 0) xs ≡ take n xs
-take_clamped xs n m k l e = grind (arith, common_steps)
-
--- the part of both numbers' bytes that is meant, however long the length says
-pub unpacked_part : (p : Packed) (all : List ℕ) (n : ℕ) → all ≡ sixteen p → n ≡ min p.length 16 → take (n - 0) all ≡ unpacked p
-unpacked_part p all n e m = ap (λ (l : List ℕ). take (n - 0) l) e ∙ take_clamped (sixteen p) p.length n 16 refl m
-
 pub length_unpacked : (p : Packed) → length (unpacked p) ≡ min p.length 16
 length_unpacked p = length-take p.length (sixteen p)
-
--- bytes laid over zeros are filled with zeros, also where another list says which bytes they are
-pub filled_laid : (k : ℕ) (part r out : List ℕ) → part ≡ r → length r ≤ k → out ≡ part ++ drop (length part) (replicate k 0) → out ≡ filled k r
-filled_laid k part r out e l w = w ∙ (ap (λ (m : List ℕ). m ++ drop (length m) (replicate k 0)) e ∙ filled_over k r l)
 
 -- what few bytes write is small
 pub number_small : (k : ℕ) (bs : List ℕ) → length bs ≤ k → Small bs → number bs < 256 ^ k
