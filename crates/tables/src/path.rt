@@ -8,7 +8,7 @@ ghost use Rattle.tables.specs.Tags.{tag_at};
 use decline::{Decline, Fault};
 use entries::{BODY, Content};
 use octets::number_of;
-use revision::{DocumentId, Mark};
+use revision::{DocumentId, Mark, is_generation};
 
 // A path of good input: the id of a document, the tags of generations 1 to the last, 8 bytes each, and the mark and the
 // body of the last one.
@@ -42,7 +42,7 @@ impl<'a> Path<'a> {
         ensures { PathRead id.now generation tags.now mark body.now result }
     {
         let id = DocumentId::read(id)?;
-        if generation == 0 || generation > 200 || tags.len() != 8 * generation as usize {
+        if !is_generation(u64::from(generation)) || tags.len() != 8 * generation as usize {
             return Err(Decline::Revision.into());
         }
         let mark = Mark::try_from(mark)?;
