@@ -78,7 +78,7 @@ impl BlockArray {
     }
 
     // Sets block n to 512 bytes.
-    // Kept: that memory is as large as before ties two states of an array, which no invariant of one value can say.
+    // Kept: that memory is as large as before, and the plan the same, ties two states of an array, which no invariant of one value can say.
     fn put(&mut self, n: u32, from: &[u8])
         requires { (n < vec_len self.old.blocks) × (length from.now ≡ 512) }
         ensures blocks { self.new.blocks.items ≡ slice_set self.old.blocks.items n (Some from.now) }

@@ -52,6 +52,7 @@ impl<D: Device> Partition<D> {
     }
 }
 
+// Kept: that no block outside the part changes ties two states, so it stands in the contract of each call and in no invariant.
 impl<D: Device> Device for Partition<D> {
     ghost disk = { part_of D.Device.disk };
 

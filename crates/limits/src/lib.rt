@@ -49,6 +49,7 @@ mod tests {
         peer.path_write(&[document], generation, &tags[0..n], 0, b"")
     }
 
+    // Kept: here and below the handle that a failed test stops by and the peer are two arguments, and the peer's condition is asked as by every call of it.
     // Writes a path of this length to each document from the first up to the end.
     fn write_all<P: WritablePeer>(
         rt: &impl Abort,

@@ -77,6 +77,7 @@ pub trait Peer {
 
     // The tags of a revision's line, 8 bytes each, generation 1 first, into memory of at least 1,600 bytes; how many
     // bytes they are.
+    // Kept: here and below nothing is allocated, so the bytes go into lent memory, and how many they are is in the answer.
     fn tags_of(&mut self, id: &[u8], revision: Revision, out: &mut [u8]) -> Result<usize, Fault>
         requires { kept self.old }
         ensures keeps { kept self.new }

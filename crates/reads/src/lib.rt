@@ -142,6 +142,7 @@ fn lay_line(tables: &Tables, entry: HeldRevision, out: &mut [u8])
 
 // Lays the tags of a held revision's line in front of lent memory of at least 1,600 bytes, 8 bytes each, generation 1
 // first, and answers how many bytes they are.
+// Kept: this and `body_of` differ in their bound on memory and in what they look up and answer; alike are the two lines that read the input.
 pub fn tags_of(
     tables: &Tables,
     id: &[u8],

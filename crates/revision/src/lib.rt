@@ -49,6 +49,7 @@ impl DocumentId {
 
     // Lays the id's bytes into memory of at least 16 bytes and answers how many they are. Numbers that are no id's are
     // declined 11, shorter memory 18.
+    // Kept: nothing is allocated, so the bytes go into lent memory, and how many they are is the answer.
     pub fn lay(self, out: &mut [u8]) -> Result<usize, Fault>
         ensures { IdLaid self.bytes out.old result out.new }
     {

@@ -18,7 +18,7 @@ ghost use Rattle.tables.specs.Paths.{LookedUp, NewestRead, slot_for, placed, row
 ghost use Rattle.std.specs.Borrow.{sem, follows};
 ghost use Rattle.std.specs.Vec.{with_item};
 ghost use Rattle.tables.specs.contracts.Tables.{the_row};
-ghost use Rattle.entries.specs.contracts.HeldRevision.{the_row as revision-row};
+ghost use Rattle.entries.specs.contracts.HeldRevision.{the_row as revision_row};
 ghost use Rattle.tables.specs.Calls.{PathReplied, Writes};
 
 use decline::{Decline, Fault};
@@ -59,6 +59,7 @@ mod logs;
 mod path;
 
 // An entry stands at its place, or behind all.
+// Kept: here and below clauses ask for the reserved memory and keep it, since by a rule of the project no type of the tables has an invariant.
 fn put_at<T: Copy>(entries: &mut Vec<T>, at: usize, entry: T)
     requires known { at ≤ vec_len entries.old }
     requires room { at < vec_capacity entries.old }
@@ -86,6 +87,7 @@ fn place_content(contents: &mut Vec<Content>, slot: Option<u8>, content: Content
     s
 }
 
+// Kept: the place of a document and a path are two arguments, here and below: the place is looked up behind the reading, and may be that of none yet.
 // Adds the entries of the generations of a path after generation k; the last has a slot.
 fn add_missing(revisions: &mut Vec<HeldRevision>, document: u8, path: &Path, k: u8, slot: u8)
     requires capacity { 1024 ≤ vec_capacity revisions.old }
@@ -180,7 +182,7 @@ impl Tables {
     // Kept: by a rule of the project an entry is changed where it stands, lent through the record that has its table.
     fn revision_mut(&mut self, i: usize) -> &mut HeldRevision
         requires { i < vec_len self.old.revisions }
-        ensures* follows { sem 𝓛 (follows the_row revision-row self.entry.ghost_name result.ghost_name (λ w. record { documents = self.old.documents; revisions = with_item self.old.revisions i w; contents = self.old.contents; logs = self.old.logs; highest = self.old.highest })) }
+        ensures* follows { sem 𝓛 (follows the_row revision_row self.entry.ghost_name result.ghost_name (λ w. record { documents = self.old.documents; revisions = with_item self.old.revisions i w; contents = self.old.contents; logs = self.old.logs; highest = self.old.highest })) }
         ensures value { result.now ≡ slice_index_or self.old.revisions.items i result.now }
     {
         &mut self.revisions[i]
