@@ -19,7 +19,7 @@ pub struct Entry {
 }
 
 // A replication log. Of the 8 places the first ones are in use, as many as the count says.
-// Kept: a log is a plain value of fixed memory, copied whole, and "`Copy` cannot be implemented for this type" where the entries are an ArrayVec.
+// Kept: callers may copy a log, and with an ArrayVec inside "`Copy` cannot be implemented for this type"; it is a plain value without an invariant, so the count is cut to the places where it is read.
 #[derive(Clone, Copy)]
 pub struct Log {
     entries: [Entry; 8],
@@ -93,7 +93,7 @@ fn replace(entries: &mut [Entry], entry: Entry) -> bool
     ensures there { result ≡ listed nat_eq entry.stamp (pairs entries.old) }
     ensures after { pairs entries.new ≡ replaced nat_eq entry.stamp entry.position (pairs entries.old) }
 {
-    // Kept: each entry with the stamp is set, so the walk goes on behind the first, and the flag is its answer.
+    // Kept: each entry with the stamp is set, so the walk goes on behind the first, where `find` would stop; the flag is its answer.
     let mut there = false;
     for e in entries.iter_mut() {
         if e.stamp == entry.stamp {

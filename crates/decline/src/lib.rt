@@ -54,7 +54,7 @@ impl From<Decline> for u8 {
 }
 
 // A row of the table: a number with its layer and word.
-// Kept: by a rule of the project the table is looked up by number, so a row has the number and not the reason.
+// Kept: by a rule of the project the table gives each number its layer and word, so a row shows the number and not the reason.
 #[derive(Clone, Copy)]
 pub struct Entry {
     pub number: u8,
@@ -226,7 +226,7 @@ impl BlockFault {
 // What a peer or a replication declines, in plain numbers: the number; the side (0 neither, 1 source, 2 target); the
 // document, of length 0 if there is none; the block, all ones if there is none; and the device's fault below, whole.
 #[derive(Clone, Copy, PartialEq, Eq, Debug)]
-// Kept: a fault is plain numbers, by a rule of the project, so number, side and document are no enums here.
+// Kept: a fault is plain numbers, by a rule of the project, so number, side, document and block are no enums and no Options here.
 pub struct Fault {
     pub number: u8,
     pub side: u8,

@@ -50,7 +50,7 @@ impl HeldRevision {
 }
 
 // What a head keeps: its mark, and as many bytes of the body as the length says.
-// Kept: in fixed memory a content takes 98 bytes; the kit's `arrayvec` would add 7 to each.
+// Kept: in fixed memory a content takes 98 bytes; with the kit's `arrayvec`, whose length takes 8, it would take 112.
 #[derive(Clone, Copy)]
 pub struct Content {
     pub mark: Mark,

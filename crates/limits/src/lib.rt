@@ -9,7 +9,7 @@ mod tests {
     use checkpoint::Entry;
     use decline::{Decline, Fault};
     use memory::{Memory, Unmade};
-    use peer::{Peer, WritablePeer};
+    use peer::{Body, Peer, WritablePeer};
     use revision::{Mark, Revision};
     use std::alloc::Global;
     use std::process::Abort;
@@ -49,7 +49,7 @@ mod tests {
         peer.path_write(&[document], generation, &tags[0..n], 0, b"")
     }
 
-    // Kept: here and below the handle that a failed test stops by and the peer are two arguments, and the peer's condition is asked as by every call of it.
+    // Kept: in these helpers the handle that a failed test stops by and the peer are two arguments, and the peer's condition is asked as by every call of it.
     // Writes a path of this length to each document from the first up to the end.
     fn write_all<P: WritablePeer>(
         rt: &impl Abort,
@@ -288,17 +288,23 @@ mod tests {
         assert_eq!(rt; peer.path_write(b"B", 1, b"11111111", 1, &[2; 96]), Ok(1));
         let mut short = [9u8; 95];
         assert_eq!(rt;
-            peer.body_of(b"A", ones(1), &mut short).err(),
-            Some(Fault::from(Decline::Memory))
+            peer.body_of(b"A", ones(1), &mut short),
+            Err(Fault::from(Decline::Memory))
         );
         assert!(rt; short == [9; 95]);
         let mut out = [9u8; 96];
-        let milk = peer.body_of(b"A", ones(1), &mut out)?;
-        assert_eq!(rt; (milk.mark, milk.length), (Mark::Live, 4));
+        let milk = Body {
+            mark: Mark::Live,
+            length: 4,
+        };
+        assert_eq!(rt; peer.body_of(b"A", ones(1), &mut out), Ok(milk));
         assert!(rt; out.starts_with(b"milk"));
         assert!(rt; out.ends_with(&[9; 92]));
-        let whole = peer.body_of(b"B", ones(1), &mut out)?;
-        assert_eq!(rt; (whole.mark, whole.length), (Mark::Deleted, 96));
+        let whole = Body {
+            mark: Mark::Deleted,
+            length: 96,
+        };
+        assert_eq!(rt; peer.body_of(b"B", ones(1), &mut out), Ok(whole));
         assert!(rt; out == [2; 96]);
         Ok(())
     }

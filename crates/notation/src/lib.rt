@@ -117,7 +117,7 @@ fn lay_text(revision: Revision, out: &mut [u8]) -> usize
 
 // Writes the text of a revision over the front of lent memory, and gives its length. A generation outside 1 to 200 is
 // declined as no revision, then memory shorter than the longest text; a decline leaves the memory untouched.
-// Kept: nothing is allocated, so the text goes into lent memory, and its length is the answer.
+// Kept: by the rule of lent memory the host's memory takes the text, and how many bytes it has is the answer.
 pub fn write(revision: Revision, out: &mut [u8]) -> Result<usize, Fault>
     ensures { Writes revision.generation revision.tag out.old out.new result }
 {

@@ -13,7 +13,7 @@ pub fn number_of(bytes: &[u8]) -> u64
     ensures { result ≡ number (take 8 bytes.now) }
 {
     let mut n: u64 = 0;
-    // Kept: tried as a fold, whose closure has no bound for its product.
+    // Kept: tried as a fold, whose closure has no bound for its product; and there may be fewer than the 8 bytes that `u64::from_be_bytes` takes.
     for b in &bytes[..bytes.len().min(8)] {
         n = n * 256 + u64::from(*b);
     }
@@ -67,7 +67,7 @@ pub struct Packed {
 
 impl Packed {
     // Packs bytes; none where there are more than 16.
-    // Kept: a named function: that bytes are too many is no error here, and TryFrom would have to name one.
+    // Kept: a named function that answers an Option: callers give the error its number, 11 for an id and 19 for a rule.
     pub fn read(bytes: &[u8]) -> Option<Packed>
         ensures { MatchOption result (16 < length bytes.now) (λ p. Packs bytes.now p) }
     {

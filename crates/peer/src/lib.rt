@@ -17,14 +17,14 @@ use decline::Fault;
 use revision::{DocumentId, Mark, Revision};
 
 // A row of the feed: a document, and its last change number.
-#[derive(Clone, Copy)]
+#[derive(Clone, Copy, PartialEq, Eq, Debug)]
 pub struct Row {
     pub id: DocumentId,
     pub change: u32,
 }
 
 // A head's mark, and the length of its body in lent memory.
-#[derive(Clone, Copy)]
+#[derive(Clone, Copy, PartialEq, Eq, Debug)]
 pub struct Body {
     pub mark: Mark,
     pub length: usize,
@@ -69,7 +69,7 @@ pub trait Peer {
         ensures calls { Replies (Function.head_at id.now i) (perhaps revision_of) (state self.old) result (state self.new) };
 
     // Whether a revision is held.
-    // Kept: id and revision are two arguments, here and below: an id comes as bytes that may be none, and head_at gives revisions alone.
+    // Kept: id and revision are two arguments, here and below: an id comes as bytes, which may be no id, and `head_at` gives revisions alone.
     fn is_held(&mut self, id: &[u8], revision: Revision) -> Result<bool, Fault>
         requires { kept self.old }
         ensures keeps { kept self.new }
@@ -77,7 +77,7 @@ pub trait Peer {
 
     // The tags of a revision's line, 8 bytes each, generation 1 first, into memory of at least 1,600 bytes; how many
     // bytes they are.
-    // Kept: here and below nothing is allocated, so the bytes go into lent memory, and how many they are is in the answer.
+    // Kept: here and below, by the rule of lent memory, the host's memory takes the bytes, and how many they are is in the answer.
     fn tags_of(&mut self, id: &[u8], revision: Revision, out: &mut [u8]) -> Result<usize, Fault>
         requires { kept self.old }
         ensures keeps { kept self.new }

@@ -96,7 +96,7 @@ fn added<'a>(prices: &[Price<'_>], line: &'a [u8]) -> Result<Option<Price<'a>>, 
 }
 
 // Adds a product's id.
-// Kept: here and below bytes are copied, since the body of a price may be no text, which Display could not write.
+// Kept: here and below bytes are copied: the body of a price may be no text, and what stands around it goes to the same buffer.
 fn add_id(out: &mut Vec<u8>, product: DocumentId) -> io::Result<()> {
     let mut text = [0u8; 16];
     if let Ok(n) = product.lay(&mut text) {
@@ -106,6 +106,7 @@ fn add_id(out: &mut Vec<u8>, product: DocumentId) -> io::Result<()> {
 }
 
 // The prices that are kept, in the order in which they came.
+// Kept: at most 64 in a list: they are shown in this order, which a map by product would lose.
 #[derive(Drop)]
 struct Prices<'a> {
     heap: Global,
@@ -190,6 +191,7 @@ fn report(heap: Global, input: &[u8]) -> io::Result<Vec<u8>> {
         heap,
         kept: Vec::new(heap),
     };
+    // Kept: both counts are wanted behind the loop, too.
     let mut lines = 0usize;
     let mut declined = 0usize;
     for line in input.split_inclusive(|b| *b == b'\n') {

@@ -52,6 +52,7 @@ fn held_entry(tables: &Tables, of: RevisionOf) -> Option<HeldRevision>
         .find(|entry| of.is_of(entry))
 }
 
+// Kept: id and revision are two arguments here, too; a struct of both would be read in three calls and taken apart at once.
 // The entry of a revision, if it is held.
 fn entry_of(tables: &Tables, id: DocumentId, revision: Revision) -> Option<HeldRevision>
     requires { Sound tables.now }

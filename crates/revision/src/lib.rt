@@ -49,7 +49,7 @@ impl DocumentId {
 
     // Lays the id's bytes into memory of at least 16 bytes and answers how many they are. Numbers that are no id's are
     // declined 11, shorter memory 18.
-    // Kept: nothing is allocated, so the bytes go into lent memory, and how many they are is the answer.
+    // Kept: by the rule of lent memory the host's memory takes the bytes, and how many they are is the answer.
     pub fn lay(self, out: &mut [u8]) -> Result<usize, Fault>
         ensures { IdLaid self.bytes out.old result out.new }
     {
@@ -72,6 +72,7 @@ pub fn is_generation(number: u64) -> bool
     (1..=200).contains(&number)
 }
 
+// Kept: plain state, as ids are: no invariant, by a rule of the project, so calls that take one test it.
 // A revision: its generation, 1 to 200, and its tag; ordered by the generation, then by the tag. The defaults here and
 // below are no revision and no head: they fill the unused places of fixed memory.
 #[derive(Clone, Copy, PartialEq, Eq, PartialOrd, Ord, Default, Debug)]
@@ -92,7 +93,8 @@ impl Revision {
     }
 }
 
-// A head is live, or it says that the document is deleted; live is above deleted.
+// A head is live, or it says that the document is deleted; live is above deleted. Its number is not its place here: it is
+// converted from and to numbers below.
 #[derive(Clone, Copy, PartialEq, Eq, PartialOrd, Ord, Default, Debug)]
 pub enum Mark {
     Deleted,

@@ -87,7 +87,7 @@ fn place_content(contents: &mut Vec<Content>, slot: Option<u8>, content: Content
     s
 }
 
-// Kept: the place of a document and a path are two arguments, here and below: the place is looked up behind the reading, and may be that of none yet.
+// Kept: the place of a document and a path are two arguments, here and below: a path is read before its document is looked up, which may not be there yet.
 // Adds the entries of the generations of a path after generation k; the last has a slot.
 fn add_missing(revisions: &mut Vec<HeldRevision>, document: u8, path: &Path, k: u8, slot: u8)
     requires capacity { 1024 ≤ vec_capacity revisions.old }
@@ -167,7 +167,7 @@ impl Tables {
         let mut newest = None;
         for generation in 1..=path.generation {
             if let Some(place) = self.look_up(document, path, generation)? {
-                let slot = self.slot_at(Some(place));
+                let slot = self.slot_at(place);
                 newest = Some(Held {
                     generation,
                     place,
@@ -179,7 +179,7 @@ impl Tables {
     }
 
     // An entry of the revisions, lent to be changed.
-    // Kept: by a rule of the project an entry is changed where it stands, lent through the record that has its table.
+    // Kept: by a rule of the project the entry of the newest held ancestor is lent through the record that has the table, and changed where it stands.
     fn revision_mut(&mut self, i: usize) -> &mut HeldRevision
         requires { i < vec_len self.old.revisions }
         ensures* follows { sem 𝓛 (follows the_row revision_row self.entry.ghost_name result.ghost_name (λ w. record { documents = self.old.documents; revisions = with_item self.old.revisions i w; contents = self.old.contents; logs = self.old.logs; highest = self.old.highest })) }
@@ -189,12 +189,12 @@ impl Tables {
     }
 
     // The slot of the entry at a place, if it is a head's; none where there is no such place.
-    pub fn slot_at(&self, at: Option<usize>) -> Option<u8>
+    fn slot_at(&self, place: usize) -> Option<u8>
         requires { Sound self.now }
-        ensures value { result ≡ slot_at self.now.revisions.items at }
+        ensures value { result ≡ slot_at self.now.revisions.items (Some place) }
         ensures within { IfSome result (λ s. s < length self.now.contents.items) }
     {
-        self.revisions.get(at?)?.slot
+        self.revisions.get(place)?.slot
     }
 
     // Whether a slot keeps the mark and the body of a path; a revision without a slot keeps nothing else.
@@ -256,6 +256,7 @@ impl Tables {
     }
 
     // Writes a path to the document at a place.
+    // Kept: here and below the answer is the number 0 or 1 that the peer's call gives, passed up as it is.
     fn write_at(&mut self, document: usize, path: &Path) -> Result<u32, Fault>
         requires sound { Sound self.old }
         requires known { document ≤ length self.old.documents.items }
