@@ -42,6 +42,7 @@ fn next_in(documents: &[Document], n: u32) -> Option<Document>
 }
 
 // The entry of a document's revision, if it is held.
+// Kept: beside `entries::place_in`, since each is one call of std's: `find` gives the entry, `position` its place.
 fn held_entry(tables: &Tables, of: RevisionOf) -> Option<HeldRevision>
     ensures { result ≡ first (is_revision of.document of.revision.generation of.revision.tag) tables.now.revisions.items }
 {
