@@ -40,6 +40,11 @@ moved_docs p q m = shift_after put m.docs
 live_sites : (r : Open) (p q : Peer) (k l : List Record) → R.Live r.numbers p q → Live (site p k) (site q l) r
 live_sites r p q k l h = record { source_up = h.source_up; source_stamp = h.source_stamp; target_up = h.target_up; target_stamp = h.target_stamp }
 
+-- a run goes on by the steps of one replication
+pub only_run : (Ok : Path → Type 0) (t : ℕ) {w z : World} → Run Ok w → Only Ok t w z → Run Ok z
+only_run Ok t run here = run
+only_run Ok t run (then u v o c) = next u v (only_run Ok t run o) (of t c)
+
 module _ (Ok : Path → Type 0) (H : Histories) (good : (p : Path) → Ok p → 1 ≤ length p.tags → PathGood H p) where
   -- the target holds each passing document of the source when a replication finishes
   finish_holds : (w : World) → Run Ok w → (s : ℕ) (r : Open) → Running s r ready w → R.Live r.numbers (w.peer r.source) (w.peer (not r.source)) → NoRow (now (at w r.source)) r.numbers.position → (d : Id) → passes r.numbers.rule d ≡ true →
@@ -284,13 +289,9 @@ module _ (Ok : Path → Type 0) (H : Histories) (good : (p : Path) → Ok p → 
   ahead_of s t w v run (finish r o c) h = ahead_quiet s r.source w v c.source c.target c.goes.source_past c.goes.target_past _ _ c.goes.is (finish_ends Ok H good t r o w v c) h
   ahead_of s t w v run (abandon c) h = subst (λ (z : World). AheadIn s z) (sym c.is) h
 
-  only_run : (t : ℕ) {w z : World} → Run Ok w → Only Ok t w z → Run Ok z
-  only_run t run here = run
-  only_run t run (then u v o c) = next u v (only_run t run o) (of t c)
-
   only_ahead : (s : Bool) (t : ℕ) {w z : World} → Run Ok w → Only Ok t w z → AheadIn s w → AheadIn s z
   only_ahead s t run here h = h
-  only_ahead s t run (then u v o c) h = ahead_of s t u v (only_run t run o) c (only_ahead s t run o h)
+  only_ahead s t run (then u v o c) h = ahead_of s t u v (only_run Ok t run o) c (only_ahead s t run o h)
 
   all_pass : (rule : List ℕ) (d : Id) → rule ≡ [] → passes rule d ≡ true
   all_pass rule d e = ap (λ (k : List ℕ). passes k d) e
@@ -321,7 +322,7 @@ module _ (Ok : Path → Type 0) (H : Histories) (good : (p : Path) → Ok p → 
       urun = next w u run (of s (finish r (done m) f1))
 
       zrun : Run Ok z
-      zrun = only_run t urun only
+      zrun = only_run Ok t urun only
 
       i : Invariant H q.source a b z.replications z.stamps
       i = at_side H z q.source (run_inv Ok H good zrun)

@@ -1,4 +1,4 @@
--- A run in which replications copy and finish, both ways.
+-- A run in which replications copy and finish, both ways, and one resumes.
 use Rattle.std.proofs.Common.{◌≡◌, ℕ, zero, suc, ◌≤◌, min, Bool, true, false, cond, eqb, List, [], ◌∷◌, length, Some, None, sym, refl, ap, subst, inl, inr, arith}
 use Rattle.std.proofs.lemmas.Bool.{eqb-true}
 use Rattle.order.specs.Lists.{Mem, same}
@@ -12,11 +12,12 @@ use Rattle.peer.specs.Records.{put, Record, blank, no_documents, no_trees, no_en
 use Rattle.peer.specs.Peers.{Peer, path, entry, current, wait, Moved, Committed, writes, answered}
 use Rattle.peer.specs.Functions.{PathWrite, fine, Room, LogWrite, path_write}
 use Rattle.law.specs.Replications.{ready, secured, Replication, done, opened, turned, in_phase, entry_of, Live, Through}
-use Rattle.law.specs.Runs.{Open, idle, running, World, sides, Grew, copier, tolds, assign, renew, opening, Run, new, next, call, of, StepOf, start, turn, secure, recording, StartStep, here, then}
+use Rattle.law.specs.Runs.{Open, idle, running, World, sides, Grew, copier, tolds, assign, renew, opening, Run, new, next, call, of, StepOf, start, turn, secure, recording, finish, StartStep, FinishStep, Only, here, then}
 use Rattle.law.specs.Laws.{Agreeing}
 use Rattle.law.specs.Happens.{Happens}
 use Rattle.revision.proofs.Heads.{heads_unique}
 use Rattle.peer.proofs.Calls.{moved_refl}
+use Rattle.law.proofs.Finished.{only_run}
 
 abbrev c0 : Content
 c0 = record { mark = 0; body = [] }
@@ -292,22 +293,22 @@ w6 = record { peer = sides true a5 b5; past = sides true [] []; replications = a
 abbrev k7 : Replication
 k7 = opened 15 [] 11 12 1
 
-abbrev w7 : World
-w7 = record { peer = sides true a5 b5; past = sides true [] []; replications = opening 15 true (current b5).docs.tree (done k7) w6.replications; stamps = 15 ∷ 13 ∷ 11 ∷ 12 ∷ [] }
-
-new15 : Mem {A = ℕ} 15 (13 ∷ 11 ∷ 12 ∷ []) → ⊥
-new15 (inl e) = omega arith
-new15 (inr (inl e)) = omega arith
-new15 (inr (inr (inl e))) = omega arith
-new15 (inr (inr (inr e))) = absurd e
-
 one_entry : (s p q : ℕ) → Mem {A = ℕ × ℕ} (s, p) ((13, 1) ∷ []) → Mem {A = ℕ × ℕ} (s, q) ((13, 1) ∷ []) → min p q ≤ 1
 one_entry s p q (inl e) n = omega (arith, ap (λ (k : ℕ × ℕ). k.1) e)
 one_entry s p q (inr e) n = absurd e
 
-start7 : StartStep 15 true [] (done k7) w6 w7
-start7 = record {
-  new = new15;
+abbrev w_early : World
+w_early = record { peer = sides true a5 b5; past = sides true [] []; replications = opening 15 true (current b5).docs.tree (done k7) w6.replications; stamps = 15 ∷ 13 ∷ 11 ∷ 12 ∷ [] }
+
+new_early : Mem {A = ℕ} 15 (13 ∷ 11 ∷ 12 ∷ []) → ⊥
+new_early (inl e) = omega arith
+new_early (inr (inl e)) = omega arith
+new_early (inr (inr (inl e))) = omega arith
+new_early (inr (inr (inr e))) = absurd e
+
+start_early : StartStep 15 true [] (done k7) w6 w_early
+start_early = record {
+  new = new_early;
   source = a5;
   target = b5;
   step = record {
@@ -464,6 +465,87 @@ step11 = recording (renew j2 q0) (done j3) (record {
 abbrev w12 : World
 w12 = record { peer = sides false b11 a11; past = sides false [] []; replications = assign 14 idle w11.replications; stamps = 14 ∷ 13 ∷ 11 ∷ 12 ∷ [] }
 
+-- such a start behind the replication back
+abbrev r7 : Open
+r7 = record { source = true; numbers = k7; own = (current b11).docs.tree; others = no_trees }
+
+abbrev w13 : World
+w13 = record { peer = sides true a11 b11; past = sides true [] []; replications = assign 15 (running r7) w12.replications; stamps = 15 ∷ 14 ∷ 13 ∷ 11 ∷ 12 ∷ [] }
+
+new15 : Mem {A = ℕ} 15 (14 ∷ 13 ∷ 11 ∷ 12 ∷ []) → ⊥
+new15 (inl e) = omega arith
+new15 (inr (inl e)) = omega arith
+new15 (inr (inr (inl e))) = omega arith
+new15 (inr (inr (inr (inl e)))) = omega arith
+new15 (inr (inr (inr (inr e)))) = absurd e
+
+start13 : StartStep 15 true [] (done k7) w12 w13
+start13 = record {
+  new = new15;
+  source = a11;
+  target = b11;
+  step = record {
+    stamp = λ e. omega arith;
+    no_twin = λ e. omega arith;
+    good = refl;
+    source_up = refl;
+    target_up = refl;
+    not_in_source = refl;
+    not_in_target = refl;
+    position = 1;
+    common = 1;
+    compared = record { reached = inr (13, 1, 1, inl refl, inl refl, refl); greatest = one_entry; counted = refl };
+    opens = refl;
+    source_moved = moved_refl a11;
+    target_moved = moved_refl b11;
+  };
+  goes = record { source_past = []; target_past = []; source_grew = no_more a11; target_grew = no_more b11; is = refl };
+}
+
+-- and finishes, since no row is left
+abbrev w14 : World
+w14 = record { peer = sides true a11 b11; past = sides true [] []; replications = assign 15 idle w13.replications; stamps = 15 ∷ 14 ∷ 13 ∷ 11 ∷ 12 ∷ [] }
+
+finish14 : FinishStep 15 r7 (done k7) w13 w14
+finish14 = record {
+  going = record { runs = refl; phase = refl };
+  source = a11;
+  target = b11;
+  step = record { live = record { source_up = refl; target_up = refl; source_stamp = refl; target_stamp = refl }; no_row = last_most; source_moved = moved_refl a11; target_moved = moved_refl b11; same = refl };
+  goes = record { source_past = []; target_past = []; source_grew = no_more a11; target_grew = no_more b11; is = refl };
+}
+
+finish6 : FinishStep 13 (renew k3 r0) (done k3) w5 w6
+finish6 = record {
+  going = record { runs = refl; phase = refl };
+  source = a5;
+  target = b5;
+  step = record { live = record { source_up = refl; target_up = refl; source_stamp = refl; target_stamp = refl }; no_row = last_most; source_moved = moved_refl a5; target_moved = moved_refl b5; same = refl };
+  goes = record { source_past = []; target_past = []; source_grew = no_more a5; target_grew = no_more b5; is = refl };
+}
+
+only11 : Only Fine 14 w6 w11
+only11 = then w10 w11 (then w9 w10 (then w8 w9 (then w6 w8 here step8) step9) step10) step11
+
+finish12 : FinishStep 14 (renew j3 q0) (done j3) w11 w12
+finish12 = record {
+  going = record { runs = refl; phase = refl };
+  source = b11;
+  target = a11;
+  step = record { live = record { source_up = refl; target_up = refl; source_stamp = refl; target_stamp = refl }; no_row = last_most; source_moved = moved_refl b11; target_moved = moved_refl a11; same = refl };
+  goes = record { source_past = []; target_past = []; source_grew = no_more b11; target_grew = no_more a11; is = refl };
+}
+
+-- all of it is one run
+run6 : Run Fine w6
+run6 = next w5 w6 run5 (of 13 (finish (renew k3 r0) (done k3) finish6))
+
+run12 : Run Fine w12
+run12 = next w11 w12 (only_run Fine 14 run6 only11) (of 14 (finish (renew j3 q0) (done j3) finish12))
+
+run14 : Run Fine w14
+run14 = next w13 w14 (next w12 w13 run12 (of 15 (start true [] (done k7) start13))) (of 15 (finish r7 (done k7) finish14))
+
 pub happens : Happens
 happens = record {
   paths = P ∷ [];
@@ -474,31 +556,26 @@ happens = record {
   stamp = 13;
   first = renew k3 r0;
   numbers = k3;
-  finishes = record {
-    going = record { runs = refl; phase = refl };
-    source = a5;
-    target = b5;
-    step = record { live = record { source_up = refl; target_up = refl; source_stamp = refl; target_stamp = refl }; no_row = last_most; source_moved = moved_refl a5; target_moved = moved_refl b5; same = refl };
-    goes = record { source_past = []; target_past = []; source_grew = no_more a5; target_grew = no_more b5; is = refl };
-  };
+  finishes = finish6;
   totals = (refl, refl, refl, refl);
+  at_once = (w_early, k7, start_early, refl);
   copied = (c0, refl);
-  later = w7;
-  opened = k7;
-  resumes = start7;
-  at_position = refl;
   between = w11;
   over = w12;
-  only = then w10 w11 (then w9 w10 (then w8 w9 (then w6 w8 here step8) step9) step10) step11;
+  only = only11;
   back = renew j3 q0;
   back_numbers = j3;
   other_way = refl;
   rules = (refl, refl);
-  finishes_back = record {
-    going = record { runs = refl; phase = refl };
-    source = b11;
-    target = a11;
-    step = record { live = record { source_up = refl; target_up = refl; source_stamp = refl; target_stamp = refl }; no_row = last_most; source_moved = moved_refl b11; target_moved = moved_refl a11; same = refl };
-    goes = record { source_past = []; target_past = []; source_grew = no_more b11; target_grew = no_more a11; is = refl };
-  };
+  finishes_back = finish12;
+  later = w13;
+  opened = k7;
+  resumes = start13;
+  at_position = refl;
+  end = w14;
+  third = r7;
+  third_numbers = k7;
+  finishes_again = finish14;
+  again_totals = (refl, refl);
+  whole = run14;
 }

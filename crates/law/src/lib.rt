@@ -11,7 +11,7 @@ fn laws_of_runs()
     ensures { Laws }
 {}
 
-// There is a run in which replications copy and finish.
+// There is a run in which replications copy and finish, both ways, and one resumes from a checkpoint.
 fn run_that_finishes()
     ensures { Happens }
 {}
@@ -28,8 +28,8 @@ pub fn replication_laws_hold() -> u8
 // How many replications finish in the run that shows that the laws are not about nothing.
 pub fn replication_happens() -> u8
     ensures happens { Happens }
-    ensures count { result ≡ 2 }
+    ensures count { result ≡ 3 }
 {
     run_that_finishes();
-    2
+    3
 }
