@@ -131,7 +131,7 @@ pub fn compare(ours: &[Entry], theirs: &[Entry]) -> (u32, usize)
 {
     let mut best = 0;
     let mut common = 0;
-    // Kept: one walk gives both answers; two chains would compare each entry twice.
+    // Kept: tried as one fold, whose closure has no bound for the count; two chains would compare each entry twice.
     for e in ours {
         if let Some(position) = meet(*e, theirs) {
             best = later(best, position);

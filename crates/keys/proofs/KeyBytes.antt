@@ -2,9 +2,9 @@
 use Rattle.std.proofs.Common.{◌≡◌, ℕ, ◌-◌, ◌^◌, ◌<◌, Bool, true, false, not, eqb, List, ◌∷◌, ◌++◌, length, get_or, take, drop, set, replicate, sym, refl, ap, ◌∙◌, arith}
 use Rattle.std.specs.Cmp.Lexicographic.{pointwise}
 use Rattle.std.proofs.lemmas.Slice.Eq.{slice_eq-Decides}
-use Rattle.std.proofs.lemmas.Bool.{and_from, and_left, and_right, eq-eqb, both_ways, not_from_true, not-false}
+use Rattle.std.proofs.lemmas.Bool.{and_right, both_ways, not_from_true, not-false}
 use Rattle.order.specs.Lists.{same}
-use Rattle.order.proofs.Lists.{same_self, same_true}
+use Rattle.order.proofs.Lists.{same_true}
 use Rattle.octets.proofs.Packing.{Small, small_take, small_drop, number_small, length_filled}
 use Rattle.keys.specs.Keys.{Key, good_rule, key_in, key_bytes, good_key}
 use borrow.Rule.Slice.PartMut.{put_mid}
@@ -34,15 +34,6 @@ rule_part bs l =
     let d : drop 8 bs ≡ get_or bs 8 0 ∷ drop 9 bs = drop_more bs 8 0 (omega arith) in
     let n : number (take 1 (drop 8 bs)) ≡ get_or bs 8 0 = ap (λ (m : List ℕ). number (take 1 m)) d ∙ omega arith in
     ap (λ (k : ℕ). take k (drop 9 bs)) (sym n)
-
--- what makes the form of a key
-pub form_good : (bs : List ℕ) → length bs ≡ 25 → good_rule (key_in bs).rule ≡ true → bs ≡ key_bytes (key_in bs) → good_key bs ≡ true
-form_good bs l g e =
-    and_from (eqb (length bs) 25) _ (eq-eqb (length bs) 25 l)
-    (and_from (good_rule (key_in bs).rule) _ g (ap (λ (m : List ℕ). same m bs) (sym e) ∙ same_self bs))
-
-pub form_bad_rule : (bs : List ℕ) → good_rule (key_in bs).rule ≡ false → good_key bs ≡ false
-form_bad_rule bs g = and_right (eqb (length bs) 25) _ (and_left (good_rule (key_in bs).rule) _ g)
 
 pub form_bad : (bs : List ℕ) → (bs ≡ key_bytes (key_in bs) → ⊥) → good_key bs ≡ false
 form_bad bs n = and_right (eqb (length bs) 25) _ (and_right (good_rule (key_in bs).rule) _ (go (same (key_bytes (key_in bs)) bs) refl))

@@ -1,8 +1,5 @@
-use Rattle.std.proofs.Common.{◌≡◌, take, ap, ◌∙◌, arith, length-take}
+use Rattle.std.proofs.Common.{take, arith, length-take}
 use Rattle.std.proofs.lemmas.Int.Digits.{number_more}
-use Rattle.std.proofs.lemmas.List.{take_all}
-use Rattle.std.proofs.lemmas.Grind.{common_steps}
-use Rattle.octets.specs.BigEndian.{number}
 use Rattle.octets.proofs.Widths.{more_lt, room}
 use Rattle.octets.proofs.number_of.Goals as goal
 
@@ -17,8 +14,3 @@ loop-b-preserved c = record {
   value = omega (arith, c.loop-b.invariant.value, number_more 256 (take c.min.result c.args.bytes.now) c.loop-b.b-index c.loop-b-test.true);
   few = more_lt c.loop-b.n c.loop-b.b-index c.from.result c.loop-b.invariant.few (omega arith);
 }
-
-pub returns : goal.returns
-returns c =
-    let e : take c.min.result c.args.bytes.now ≡ take 8 c.args.bytes.now = grind (arith, common_steps) in
-    c.loop-b.invariant.value ∙ ap number (take_all c.loop-b.b-index _ c.loop-b-test.false ∙ e)
