@@ -119,7 +119,9 @@ pub trait Finds<E> {
 fn same_bytes(a: Packed, b: Packed) -> bool
     ensures { result ≡ same (unpacked a) (unpacked b) }
 {
-    a.unpacked().as_slice() == b.unpacked().as_slice()
+    let ours = a.bytes();
+    let theirs = b.bytes();
+    a.cut(&ours) == b.cut(&theirs)
 }
 
 // A document is found by its id.
@@ -131,12 +133,15 @@ impl Finds<Document> for DocumentId {
     }
 }
 
-// A revision is found by its document's place, its generation and its tag.
+// A revision is found by its document's place, its generation and its tag. The generation is compared first, since of
+// each generation a table has no more entries than heads.
 impl Finds<HeldRevision> for RevisionOf {
     ghost finds = { λ k. is_revision k.document k.revision.generation k.revision.tag };
 
     fn is_of(&self, entry: &HeldRevision) -> bool {
-        entry.document == self.document && entry.revision() == self.revision
+        entry.generation == self.revision.generation
+            && entry.document == self.document
+            && entry.tag == self.revision.tag
     }
 }
 

@@ -33,7 +33,8 @@ impl Rule {
     pub fn passes(self, id: &[u8]) -> bool
         ensures { result ≡ passes (prefix_of self) id.now }
     {
-        id.starts_with(&self.prefix.unpacked())
+        let all = self.prefix.bytes();
+        id.starts_with(self.prefix.cut(&all))
     }
 }
 
@@ -93,9 +94,10 @@ impl Key {
     pub fn bytes(self) -> [u8; 25]
         ensures { result ≡ key_bytes (key_of self) }
     {
-        let prefix = self.rule.prefix.unpacked();
+        let all = self.rule.prefix.bytes();
+        let prefix = self.rule.prefix.cut(&all);
         let mut filled = [0u8; 16];
-        filled[..prefix.len()].copy_from_slice(&prefix);
+        filled[..prefix.len()].copy_from_slice(prefix);
         let mut out = [0u8; 25];
         out[0..4].copy_from_slice(&self.source.to_be_bytes());
         out[4..8].copy_from_slice(&self.target.to_be_bytes());

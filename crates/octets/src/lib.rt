@@ -94,6 +94,14 @@ impl Packed {
         all
     }
 
+    // Of the bytes of both numbers those that are packed.
+    // Kept: beside `unpacked`, whose vector writes its unused places anew: looking through a table, that took many times as long.
+    pub fn cut<'a>(&self, all: &'a [u8; 16]) -> &'a [u8]
+        ensures { result.now ≡ take self.now.length all.now }
+    {
+        &all[..(self.length as usize).min(16)]
+    }
+
     // The bytes that are packed.
     pub fn unpacked(&self) -> ArrayVec<u8, 16>
         ensures { result.items ≡ unpacked self.now }

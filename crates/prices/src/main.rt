@@ -187,6 +187,8 @@ impl fmt::Display for Declined {
 // The whole task: all lines of the input, and what became of them.
 fn report(heap: Global, input: &[u8]) -> io::Result<Vec<u8>> {
     let mut out = Vec::new(heap);
+    // One declined line's text, which goes to the output in one piece: so that grows by whole lines.
+    let mut text = Vec::new(heap);
     let mut prices = Prices {
         heap,
         kept: Vec::new(heap),
@@ -201,7 +203,9 @@ fn report(heap: Global, input: &[u8]) -> io::Result<Vec<u8>> {
             Ok(None) => {}
             Err(fault) => {
                 declined = declined.saturating_add(1);
-                writeln!(out, "{}", Declined { line: lines, fault })?;
+                text.clear();
+                writeln!(text, "{}", Declined { line: lines, fault })?;
+                out.write_all(&text)?;
             }
         }
     }
@@ -218,7 +222,8 @@ fn report(heap: Global, input: &[u8]) -> io::Result<Vec<u8>> {
 fn main(rt: HostRuntime) -> anyhow::Result<()> {
     let mut input = Vec::new(rt.alloc());
     rt.stdin().read_to_end(&mut input)?;
-    let out = report(rt.alloc(), &input)?;
+    // All that is written there goes to memory, so nothing but the lack of it can go wrong.
+    let out = report(rt.alloc(), &input).map_err(|_| AllocError)?;
     rt.stdout().write_all(&out)?;
     let examples = examples_hold();
     let laws = replication_laws_hold();

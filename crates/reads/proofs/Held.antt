@@ -48,6 +48,16 @@ module _ (t : Tables) where
       let m = first_element (is_revision r.document r.generation r.tag) (vec_items t.revisions) r e in
       subst (λ (q : HeldRevision). good_tag q.tag ≡ true) (m.is r) (s.revisions.tags m.place r m.within)
 
+  -- no entry is one of a revision before generation 1
+  pub none_before : (d x : ℕ) → Sound t → first (is_revision d 0 x) (vec_items t.revisions) ≡ None
+  none_before d x s = go (first (is_revision d 0 x) (vec_items t.revisions)) refl
+    where
+      go : (o : Option HeldRevision) → first (is_revision d 0 x) (vec_items t.revisions) ≡ o → first (is_revision d 0 x) (vec_items t.revisions) ≡ None
+      go None q = q
+      go (Some r) q =
+          let n = found_names d 0 x (vec_items t.revisions) r q in
+          absurd (omega (arith, n.generation, entry_generation r s (found_entry d 0 x r q)))
+
   module _ (id : Id) (g x : ℕ) where
     -- an entry that was looked up by the document's place
     pub entry_found : (d : ℕ) (o : Option HeldRevision) → Some d ≡ place (is_document id) 0 (vec_items t.documents) → o ≡ first (is_revision d g x) (vec_items t.revisions) → HasEntry t id g x o

@@ -109,11 +109,15 @@ fn lay_body(content: &Content, out: &mut [u8]) -> Body
     }
 }
 
-// The entry of the parent of a revision that is held; none of a root's.
+// The entry of the parent of a revision that is held; none of a root's, for which the table is not gone through.
 fn parent_of(tables: &Tables, entry: HeldRevision) -> Option<HeldRevision>
-    requires { 0 < entry.generation }
+    requires sound { Sound tables.now }
+    requires low { 0 < entry.generation }
     ensures { result ≡ first (is_revision entry.document (entry.generation - 1) entry.parent) tables.now.revisions.items }
 {
+    if entry.generation == 1 {
+        return None;
+    }
     let revision = Revision {
         generation: entry.generation - 1,
         tag: entry.parent,

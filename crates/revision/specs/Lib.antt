@@ -4,3 +4,4 @@ pub mod Paths
 pub mod Heads
 pub mod Laws
 pub mod Values
+pub mod HeadOrder

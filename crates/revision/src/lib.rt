@@ -2,7 +2,10 @@
 #![tactic(auto)]
 
 ghost use Rattle.std.specs.Prelude.{◌≡◌, ℕ, ◌<◌, ◌≤◌, Bool, true, false, List, length, Decides};
-ghost use Rattle.std.specs.Ordering.{MatchOrdering as ByOrdering};
+ghost use Rattle.std.proofs.Common.{rules};
+ghost use Rattle.std.specs.Cmp.{partial_order_from_own_ties};
+ghost use Rattle.std.specs.Cmp.Rules.{comparing};
+ghost use Rattle.std.specs.Ordering.{MatchOrdering as ByOrdering, as_partial_cmp, flip_args, nat_cmp, on};
 ghost use Rattle.order.specs.Lists.{every};
 ghost use Rattle.order.specs.Order.{TotalOrder};
 ghost use Rattle.revision.specs.Ids.{id_byte, good_generation, IsId};
@@ -13,6 +16,9 @@ ghost use Rattle.revision.specs.Values.{IdRead, IdLaid, RevisionMade, mark_numbe
 use decline::{Decline, Fault};
 use octets::Packed;
 use order::{arrange, greatest};
+use std::cmp::Ordering;
+
+mod ranked;
 
 // A document's id in plain numbers. Whatever numbers it is made of, only those of an id are laid out as bytes.
 #[derive(Clone, Copy, PartialEq, Eq, Debug)]
@@ -44,7 +50,8 @@ impl DocumentId {
     fn is_id(self) -> bool
         ensures { Decides result (IsId self.bytes) }
     {
-        DocumentId::read(&self.bytes.unpacked()) == Ok(self)
+        let all = self.bytes.bytes();
+        DocumentId::read(self.bytes.cut(&all)) == Ok(self)
     }
 
     // Lays the id's bytes into memory of at least 16 bytes and answers how many they are. Numbers that are no id's are
@@ -59,8 +66,9 @@ impl DocumentId {
         if out.len() < 16 {
             return Err(Fault::from(Decline::Memory));
         }
-        let id = self.bytes.unpacked();
-        out[..id.len()].copy_from_slice(&id);
+        let all = self.bytes.bytes();
+        let id = self.bytes.cut(&all);
+        out[..id.len()].copy_from_slice(id);
         Ok(id.len())
     }
 }
@@ -93,13 +101,38 @@ impl Revision {
     }
 }
 
-// A head is live, or it says that the document is deleted; live is above deleted. Its number is not its place here: it is
-// converted from and to numbers below.
-#[derive(Clone, Copy, PartialEq, Eq, PartialOrd, Ord, Default, Debug)]
+// A head is live, or it says that the document is deleted.
+#[derive(Clone, Copy, PartialEq, Eq, Default, Debug)]
 pub enum Mark {
-    Deleted,
     #[default]
     Live,
+    Deleted,
+}
+
+// Live is above deleted: marks go the other way round than their numbers, which `as` gives, too.
+// Kept: a derived order would go by the numbers, and put deleted above live.
+impl Ord for Mark {
+    ghost cmp = { flip_args (on mark_number nat_cmp) };
+
+    ghost total = { Prim.search (comparing, rules) };
+
+    ghost matches_partial_cmp = { Prim.search (comparing, rules) };
+
+    ghost matches_eq = { Prim.search (comparing, rules) };
+
+    fn cmp(&self, other: &Mark) -> Ordering {
+        u8::from(*other).cmp(&u8::from(*self))
+    }
+}
+
+impl PartialOrd for Mark {
+    ghost partial_cmp = { as_partial_cmp (flip_args (on mark_number nat_cmp)) };
+
+    ghost laws = { partial_order_from_own_ties (Prim.search (comparing, rules)) (Prim.search (comparing, rules)) };
+
+    fn partial_cmp(&self, other: &Mark) -> Option<Ordering> {
+        Some(self.cmp(other))
+    }
 }
 
 // The mark that a number stands for; above 1 it is declined 13.

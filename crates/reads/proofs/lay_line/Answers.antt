@@ -21,8 +21,8 @@ slice_bounds-copy_from_slice-end c =
     let room : 8 * c.in-Some.entry.generation ≤ length c.loop-next.out = walk_room c.args.tables.now c.requires.sound _ _ _ _ c.in-Some.entry c.loop-next.out w c.requires.room in
     omega arith
 
-pub parent_of-next-requires : goal.parent_of-next-requires
-parent_of-next-requires c =
+pub parent_of-next-requires-clause-low : goal.parent_of-next-requires-clause-low
+parent_of-next-requires-clause-low c =
     let w = rw c.in-Some.is at c.loop-next.invariant in
     entry_generation c.args.tables.now c.in-Some.entry c.requires.sound w.entry.1
 

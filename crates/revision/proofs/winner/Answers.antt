@@ -1,7 +1,7 @@
 use Rattle.std.proofs.lemmas.List.{get_or_default}
 use Rattle.order.proofs.Lists.{mem_get_d, greatest_member}
 use Rattle.revision.specs.Values.{Lower}
-use Rattle.revision.proofs.Ordered.{lower_less}
+use Rattle.revision.specs.HeadOrder.{lower_less}
 use Rattle.revision.proofs.winner.Goals as goal
 
 pub returns-clause-winner : goal.returns-clause-winner
