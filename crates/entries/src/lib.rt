@@ -133,8 +133,8 @@ impl Finds<Document> for DocumentId {
     }
 }
 
-// A revision is found by its document's place, its generation and its tag. The generation is compared first, since of
-// each generation a table has no more entries than heads.
+// A revision is found by its document's place, its generation and its tag. The generation is compared first, since in
+// tables that path writes made there are no more entries of one generation than heads.
 impl Finds<HeldRevision> for RevisionOf {
     ghost finds = { λ k. is_revision k.document k.revision.generation k.revision.tag };
 

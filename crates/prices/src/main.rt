@@ -187,7 +187,7 @@ impl fmt::Display for Declined {
 // The whole task: all lines of the input, and what became of them.
 fn report(heap: Global, input: &[u8]) -> io::Result<Vec<u8>> {
     let mut out = Vec::new(heap);
-    // One declined line's text, which goes to the output in one piece: so that grows by whole lines.
+    // The text of a declined line or of the last one, which goes to the output in one piece: so that grows by whole lines.
     let mut text = Vec::new(heap);
     let mut prices = Prices {
         heap,
@@ -212,10 +212,12 @@ fn report(heap: Global, input: &[u8]) -> io::Result<Vec<u8>> {
     prices.add_products(&mut out)?;
     let taken = lines.saturating_sub(declined);
     let kept = prices.kept.len();
+    text.clear();
     writeln!(
-        out,
+        text,
         "{lines} lines read, {taken} taken, {declined} declined, {kept} prices kept"
     )?;
+    out.write_all(&text)?;
     Ok(out)
 }
 
